@@ -1,0 +1,18 @@
+//! The model of a supply network: stages, arcs, plans, what a plan costs, and the rules on both.
+#![tactic(auto)]
+
+mod breaks;
+mod faults;
+mod limits;
+mod list;
+mod network;
+mod plan;
+mod stage;
+
+pub use breaks::Break;
+pub use faults::{NetworkFault, NewFault};
+pub use limits::{INF, MAX_ARCS, MAX_HORIZON, MAX_PLAN_COST, MAX_STAGES, MAX_TIME};
+pub use list::{List, NoMemory};
+pub use network::Network;
+pub use plan::Plan;
+pub use stage::{Stage, SupplyArc};

@@ -1,0 +1,81 @@
+// A network on which every rule holds.
+ghost use Rattle.std.specs.Prelude.{◌≡◌, ◌+◌, ◌-◌, ◌<◌, ◌≤◌, ◌^◌, List, length};
+
+use crate::{INF, List, NetworkFault, NewFault, Plan, Stage, SupplyArc};
+use std::alloc::Global;
+use std::marker::Model;
+
+/// A network on which every rule holds.
+#[derive(Drop)]
+pub struct Network {
+    horizon: u16,
+    stages: List<Stage>,
+    arcs: List<SupplyArc>,
+}
+
+impl Model for Network {
+    ghost use Rattle.service_model.specs.Net.{Net};
+
+    ghost Value = { Net };
+
+    ghost use Rattle.service_model.specs.Faults.{IsNetwork};
+
+    ghost view = { λ n. record { horizon = n.horizon; stages = n.stages; arcs = n.arcs } };
+
+    ghost invariant = { λ n. IsNetwork (record { horizon = n.horizon; stages = n.stages; arcs = n.arcs }) };
+}
+
+impl Network {
+    ghost use Rattle.service_model.specs.Net.{net_of, stage_at};
+    ghost use Rattle.service_model.specs.Plans.{Feasible, cost_of, entry_of};
+    ghost use Rattle.service_model.specs.Faults.{IsNetwork, MakesNetwork};
+
+    /// The network of these three, or the first rule that fails. On a refusal the lists are given up.
+    pub fn new(
+        alloc: Global,
+        horizon: u16,
+        stages: List<Stage>,
+        arcs: List<SupplyArc>,
+    ) -> Result<Network, NewFault>
+        requires few_stages { length stages < 2 ^ 32 }
+        requires few_arcs { length arcs < 2 ^ 32 }
+        ensures { MakesNetwork (net_of horizon stages arcs) result }
+    {
+        Err(NewFault::NoMemory)
+    }
+
+    /// The horizon, in periods.
+    pub fn horizon(&self) -> u16
+        ensures value { result ≡ self.now.horizon }
+        ensures valid { IsNetwork self.now }
+    {
+        self.horizon
+    }
+
+    pub fn stages(&self) -> &List<Stage>
+        ensures value { result.now ≡ self.now.stages }
+        ensures valid { IsNetwork self.now }
+    {
+        &self.stages
+    }
+
+    pub fn arcs(&self) -> &List<SupplyArc>
+        ensures value { result.now ≡ self.now.arcs }
+        ensures valid { IsNetwork self.now }
+    {
+        &self.arcs
+    }
+
+    /// The cost of a stage at a net replenishment time, `INF` past its list's end.
+    pub fn cost_at(&self, stage: u32, time: u32) -> u64
+        requires { stage < length self.now.stages }
+        ensures { result ≡ entry_of (stage_at self.now stage).cost time }
+    {
+        let cost = &self.stages.get(stage as usize).cost;
+        if (time as usize) < cost.len() {
+            *cost.get(time as usize)
+        } else {
+            INF
+        }
+    }
+}
