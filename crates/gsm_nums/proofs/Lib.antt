@@ -1,2 +1,3 @@
 mod NumberFacts
+pub mod RootFacts
 pub mod WholeFacts

@@ -15,12 +15,12 @@ pub enum NumFault {
     OutOfRange,
 }
 
-/// The whole number from `least` to `most` that the bytes show. Spaces at both ends are passed over, and
-/// the digits may be any number, with zeros in front.
+/// The whole number that the bytes show in digits, where it lies from `least` to `most`. Spaces at both
+/// ends are passed over; any number of digits is read, with zeros in front or without.
 #[tactic(auto, unfolding(crate::specs::Whole::whole_of))]
 pub fn read_whole(bytes: &[u8], least: u64, most: u64) -> Result<u64, NumFault>
     requires order { least ≤ most }
-    requires small { most ≤ 1000000000000000000 }
+    requires small { most ≤ 10 ^ 18 }
     ensures value { result ≡ whole_of (without_spaces bytes.now) least most }
     ensures within { IfOk result (λ n. (least ≤ n) × (n ≤ most)) }
 {
