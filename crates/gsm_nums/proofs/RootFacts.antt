@@ -1,9 +1,10 @@
--- Squares keep the order, and one number alone is the root of n rounded up: `root_up_of n`.
+-- One number alone is the square root of n, rounded up: `root_up_of n`.
 use Rattle.std.proofs.Common.{◌≡◌, ℕ, zero, suc, ◌+◌, ◌*◌, ◌<◌, ◌≤◌, nat_le, Bool, true, false, if◌then◌else◌, refl, arith, inl, inr}
 use Rattle.std.proofs.lemmas.Bool.{cases_lt}
 use Rattle.std.proofs.lemmas.Bool.Decides.{nat_tests}
 use Rattle.gsm_nums.specs.Root.{IsRootUp, root_up_of}
 
+-- squares keep the order
 pub square_le : (x y : ℕ) → x ≤ y → x * x ≤ y * y
 square_le x y less = grind arith
 
@@ -24,6 +25,7 @@ root_one_more n down short reaches = record {
   least = λ y enough. omega (arith, root_lt down y (omega arith));
 }
 
+-- no other number is the root
 pub same_root : (n x y : ℕ) → IsRootUp n x → IsRootUp n y → x ≡ y
 same_root n x y first second = omega (arith, first.least y second.root, second.least x first.root)
 
@@ -38,6 +40,7 @@ next_root before root false told is =
     let square : root * root < suc before = grind (arith, nat_tests) in
     root_one_more (suc before) root square (omega arith)
 
+-- `root_up_of` is the root
 pub root_up_is : (n : ℕ) → IsRootUp n (root_up_of n)
 unfolding root_up_of
 root_up_is zero = record { root = omega arith; least = λ y reaches. omega arith }

@@ -47,8 +47,7 @@ whole_of_out_of_range field least most is = record {
   outside = grind (arith, nat_tests);
 }
 
--- and the other way round
-
+-- and the other way round: when each answer comes
 pub gives_ok : (field : List ℕ) (least most n : ℕ) → IsWhole field least most n → whole_of field least most ≡ Ok n
 unfolding whole_of
 gives_ok field least most n is = grind (arith, nat_tests)

@@ -6,7 +6,7 @@ pub record IsRootUp (n x : ℕ) : Type 0 where
   pub root : n ≤ x * x
   pub least : (y : ℕ) → n ≤ y * y → x ≤ y
 
--- that number: as for the number before n, or one more where that square is less than n
+-- the root of a number, rounded up: that of the number before it, or one more where the square of that falls short
 unfoldable pub root_up_of : ℕ → ℕ
 root_up_of zero = 0
 root_up_of (suc before) = if nat_le (suc before) (root_up_of before * root_up_of before) then root_up_of before else root_up_of before + 1

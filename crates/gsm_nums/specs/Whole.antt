@@ -21,12 +21,12 @@ without_last_spaces bytes = take (length bytes - suffix_len is_space bytes) byte
 unfoldable pub without_spaces : List ℕ → List ℕ
 without_spaces bytes = without_last_spaces (without_first_spaces bytes)
 
--- the number that digits write: each counts ten times for each digit behind it
+-- the number that digits write: each digit counts tenfold for each digit behind it
 abbrev pub number_of : List ℕ → ℕ
 number_of [] = 0
 number_of (digit ∷ behind) = (digit - 48) * 10 ^ length behind + number_of behind
 
--- the number that a field shows, where it stands there in digits alone and is within its range
+-- the number that a field shows, or why there is none: it is empty, has more than digits, or its number is out of the range
 unfoldable pub whole_of : List ℕ → ℕ → ℕ → Result ℕ NumFault
 whole_of field least most =
     if length field == 0 then Err Empty
