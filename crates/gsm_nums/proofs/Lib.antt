@@ -1,0 +1,4 @@
+mod NumberFacts
+pub mod RootFacts
+pub mod SpaceFacts
+pub mod WholeFacts
