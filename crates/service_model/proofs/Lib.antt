@@ -1,0 +1,7 @@
+mod TakenFacts
+mod CustomerFacts
+mod WaitFacts
+mod FrontFacts
+mod CycleFacts
+mod MarkFacts
+mod SearchedFacts

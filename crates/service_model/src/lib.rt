@@ -2,12 +2,18 @@
 #![tactic(auto)]
 
 mod breaks;
+mod cycle;
 mod faults;
 mod limits;
+mod links;
 mod list;
+mod marks;
 mod network;
+mod order;
 mod plan;
+mod ready;
 mod stage;
+mod waits;
 
 pub use breaks::Break;
 pub use faults::{NetworkFault, NewFault};
