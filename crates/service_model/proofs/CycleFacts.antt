@@ -2,16 +2,15 @@
 use Rattle.std.proofs.Common.{ℕ, zero, suc, ◌≡◌, ◌+◌, ◌<◌, ◌≤◌, eqb, List, [], ◌∷◌, ◌++◌, length, get_or, refl, sym, ◌∙◌, subst, inl, inr, ⊎_elim, arith}
 use Rattle.std.specs.Prelude.{Contains, ◌⊎◌}
 use Rattle.std.specs.List.{IsDistinct}
-use Rattle.std.proofs.lemmas.Bool.{cases_eq, ne_eqb}
+use Rattle.std.proofs.lemmas.Bool.{cases_eq}
 use Rattle.std.proofs.lemmas.List.{length_push, length-take, get_or-take, get_or_default}
-use Rattle.std.proofs.lemmas.List.Elements.{recursion_from_All}
 use Rattle.std.proofs.lemmas.Map.Steps.{length-le_from_distinct_below}
 use Rattle.service_model.specs.declared.stage.SupplyArc.{SupplyArc}
 use Rattle.service_model.specs.Net.{no_arc}
 use Rattle.service_model.specs.Walks.{Leads, Walk, ReachesItself, NoCycle}
 use Rattle.service_model.specs.Orders.{ComesNext, IsFront, IsTopological}
 use Rattle.service_model.specs.Customers.{HasEnds}
-use Rattle.service_model.proofs.TakenFacts.{taken_to, cases_taken, few_new, each_push}
+use Rattle.service_model.proofs.TakenFacts.{taken_to, cases_taken, few_new, each_push, distinct_cons, none_distinct}
 use Rattle.service_model.proofs.CustomerFacts.{lead_later, in_cons}
 
 -- along a walk the place in the list rises
@@ -34,7 +33,7 @@ no_cycle stages arcs order next j (k, inside, is) (n, walk) =
     (next k inside).ready.new
     (back.0, omega (arith, low, inside, length-take k order), get_or-take k order back.0 (get_or order k 0) low ∙ get_or_default order back.0 (get_or order k 0) 0 (omega (arith, low, inside)) ∙ back.2 ∙ sym at)
 
--- all suppliers are listed, or one is not
+-- all suppliers are taken, or one is not
 find_supplier : (arcs : List SupplyArc) (order : List ℕ) (j : ℕ) → ((s : ℕ) → Leads arcs s j → Contains order s) ⊎ ((s : ℕ) × Leads arcs s j × (Contains order s → ⊥))
 find_supplier [] order j = inl (λ s l. absurd (omega (arith, l.1)))
 find_supplier (a ∷ arcs) order j = ⊎_elim
@@ -60,12 +59,7 @@ pub walk_first : (arcs : List SupplyArc) (n a b c : ℕ) → Leads arcs a b → 
 walk_first arcs zero a b c lead walk = (a, refl, subst (λ x. Leads arcs a x) walk lead)
 walk_first arcs (suc n) a b c lead (m, walk, last) = (m, walk_first arcs n a b m lead walk, last)
 
-distinct_cons : (ts : List ℕ) (s : ℕ) → IsDistinct eqb ts → (Contains ts s → ⊥) → IsDistinct eqb (s ∷ ts)
-unfolding IsDistinct
-distinct_cons ts s old new =
-    (recursion_from_All _ ts (λ k d inside. ne_eqb _ _ (λ same. new (k, inside, get_or_default ts k s d inside ∙ sym same))), old)
-
--- stages that are not listed, each of which the first reaches
+-- stages that are not taken, each of which the first reaches
 record Trail (stages : ℕ) (arcs : List SupplyArc) (order : List ℕ) (x : ℕ) (ts : List ℕ) : Type 0 where
   stage : x < stages
   new : Contains order x → ⊥
@@ -94,13 +88,9 @@ climb stages arcs order ends front (suc fuel) x ts much trail = ⊎_elim
     (cases_taken ts s))
     (find_supplier arcs order x)
 
-none_distinct : IsDistinct eqb []
-unfolding IsDistinct
-none_distinct = tt
-
--- where no stage reaches itself, all are listed
-pub all_listed : (stages : ℕ) (arcs : List SupplyArc) (order : List ℕ) → HasEnds stages arcs → IsFront stages arcs order → NoCycle stages arcs → IsTopological stages arcs order
-all_listed stages arcs order ends front acyclic = record {
+-- where no stage reaches itself, all are taken
+pub all_taken : (stages : ℕ) (arcs : List SupplyArc) (order : List ℕ) → HasEnds stages arcs → IsFront stages arcs order → NoCycle stages arcs → IsTopological stages arcs order
+all_taken stages arcs order ends front acyclic = record {
   next = front.next;
   each = λ j within. ⊎_elim (λ inside. inside)
       (λ out.
@@ -115,7 +105,7 @@ all_listed stages arcs order ends front acyclic = record {
       (cases_taken order j);
 }
 
--- where all are listed, no stage reaches itself
+-- where all are taken, no stage reaches itself
 pub full_order : (stages : ℕ) (arcs : List SupplyArc) (order : List ℕ) → ComesNext stages arcs order → length order ≡ stages → NoCycle stages arcs
 full_order stages arcs order next long j within cycle = ⊎_elim
     (λ inside. no_cycle stages arcs order next j inside cycle)

@@ -5,3 +5,4 @@ mod FrontFacts
 mod CycleFacts
 mod MarkFacts
 mod SearchedFacts
+pub mod OrderLaws

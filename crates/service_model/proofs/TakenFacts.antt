@@ -36,6 +36,15 @@ distinct_from (x ∷ xs) apart = (
   distinct_from xs (λ i j less inside. apart (suc i) (suc j) (omega arith) (omega arith)),
 )
 
+pub none_distinct : IsDistinct eqb []
+unfolding IsDistinct
+none_distinct = tt
+
+pub distinct_cons : (ts : List ℕ) (s : ℕ) → IsDistinct eqb ts → (Contains ts s → ⊥) → IsDistinct eqb (s ∷ ts)
+unfolding IsDistinct
+distinct_cons ts s old new =
+    (recursion_from_All _ ts (λ k d inside. ne_eqb _ _ (λ same. new (k, inside, get_or_default ts k s d inside ∙ sym same))), old)
+
 -- numbers below n, each new to those before it, are at most n
 pub few_new : (xs : List ℕ) (n : ℕ) → ((k : ℕ) → k < length xs → get_or xs k 0 < n) → ((k : ℕ) → k < length xs → Contains (take k xs) (get_or xs k 0) → ⊥) → length xs ≤ n
 few_new xs n low new =

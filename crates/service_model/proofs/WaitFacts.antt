@@ -20,8 +20,8 @@ weight order j a = cond (not (is_taken order a.supplier) && (a.customer == j)) 1
 abbrev pub here : ℕ → ℕ → ℕ
 here j c = cond (c == j) 1 0
 
-listed_push : (order : List ℕ) (i s : ℕ) → is_taken (order ++ i ∷ []) s ≡ (is_taken order s || (s == i))
-listed_push order i s = list_any-append (λ k. s == k) order (i ∷ []) ∙ or_false (is_taken order s) (s == i)
+taken_push : (order : List ℕ) (i s : ℕ) → is_taken (order ++ i ∷ []) s ≡ (is_taken order s || (s == i))
+taken_push order i s = list_any-append (λ k. s == k) order (i ∷ []) ∙ or_false (is_taken order s) (s == i)
   where
     or_false : (x y : Bool) → (x || (y || false)) ≡ (x || y)
     or_false true y = refl
@@ -32,7 +32,7 @@ listed_push order i s = list_any-append (λ k. s == k) order (i ∷ []) ∙ or_f
 weight_same : (order : List ℕ) (i j : ℕ) (a : SupplyArc) → (a.supplier ≡ i → ⊥) → weight (order ++ i ∷ []) j a ≡ weight order j a
 weight_same order i j a other =
     ap (λ b. cond (not b && (a.customer == j)) 1 0)
-    (listed_push order i a.supplier ∙ ap (λ b. is_taken order a.supplier || b) (ne_eqb a.supplier i other) ∙ or_off (is_taken order a.supplier))
+    (taken_push order i a.supplier ∙ ap (λ b. is_taken order a.supplier || b) (ne_eqb a.supplier i other) ∙ or_off (is_taken order a.supplier))
   where
     or_off : (x : Bool) → (x || false) ≡ x
     or_off true = refl
@@ -45,10 +45,10 @@ weight_gone order i j a same =
 weight_open : (order : List ℕ) (j : ℕ) (a : SupplyArc) → (Contains order a.supplier → ⊥) → weight order j a ≡ here j a.customer
 weight_open order j a new = ap (λ b. cond (not b && (a.customer == j)) 1 0) (taken_not order a.supplier new)
 
-weight_listed : (order : List ℕ) (j : ℕ) (a : SupplyArc) → Contains order a.supplier → weight order j a ≡ 0
-weight_listed order j a inside = ap (λ b. cond (not b && (a.customer == j)) 1 0) (taken_from order a.supplier inside)
+weight_taken : (order : List ℕ) (j : ℕ) (a : SupplyArc) → Contains order a.supplier → weight order j a ≡ 0
+weight_taken order j a inside = ap (λ b. cond (not b && (a.customer == j)) 1 0) (taken_from order a.supplier inside)
 
--- one stage more is listed: its arcs to j no longer wait
+-- one stage more is taken: its arcs to j no longer wait
 pub missing_push : (arcs : List SupplyArc) (order : List ℕ) (i j : ℕ) → (Contains order i → ⊥)
     → missing arcs (order ++ i ∷ []) j + count_by (λ c. c == j) (customers_in arcs i) ≡ missing arcs order j
 missing_push [] order i j new = refl
@@ -88,7 +88,7 @@ waits_more stages arcs k waits inside ends long each j within =
     omega (arith, e, w, more, old))
     (cases_eq j c)
 
--- a stage waits for none exactly where its suppliers are listed
+-- a stage waits for none exactly where its suppliers are taken
 pub missing_none : (arcs : List SupplyArc) (order : List ℕ) (j s : ℕ) → missing arcs order j ≡ 0 → Leads arcs s j → Contains order s
 missing_none arcs order j s none l = ⊎_elim (λ inside. inside)
     (λ out.
@@ -111,7 +111,7 @@ none_missing (a ∷ arcs) order j all =
     let rest = none_missing arcs order j (λ s l. all s (lead_later a arcs s j l)) in
     let e = sum_by-cons (weight order j) a arcs in
     let w : weight order j a ≡ 0 = ⊎_elim
-    (λ same. weight_listed order j a (all a.supplier (0, omega arith, refl, same)))
+    (λ same. weight_taken order j a (all a.supplier (0, omega arith, refl, same)))
     (λ other. weight_other order j a other)
     (cases_eq a.customer j) in
     omega (arith, rest, e, w)

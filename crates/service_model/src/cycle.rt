@@ -2,7 +2,7 @@
 ghost use Rattle.std.specs.Prelude.{◌<◌, ◌^◌, ◌↔◌, All, IfOk, IsTrue};
 ghost use Rattle.service_model.specs.Walks.{ReachesItself, IsFirstOnCycle};
 
-use crate::links::{Links, customer_lists};
+use crate::links::Links;
 use crate::marks::{mark_all, no_marks};
 use crate::order::front;
 use crate::{List, NoMemory, SupplyArc};
@@ -46,11 +46,7 @@ pub fn first_on_cycle(
     requires ends { All (λ a. (a.supplier < stages) × (a.customer < stages)) arcs.now }
     ensures first { IfOk result (IsFirstOnCycle stages arcs.now) }
 {
-    let links = Links {
-        stages,
-        arcs,
-        customers: customer_lists(alloc, stages, arcs)?,
-    };
+    let links = Links::new(alloc, stages, arcs)?;
     if front(alloc, &links)?.len() == stages {
         return Ok(None);
     }

@@ -10,13 +10,26 @@ use std::alloc::Global;
 pub struct Links<'a> {
     pub stages: usize,
     pub arcs: &'a [SupplyArc],
-    pub customers: Vec<List<u32>>,
+    customers: Vec<List<u32>>,
     ghost few: { stages < 2 ^ 32 },
     ghost ends: { HasEnds stages arcs.now },
     ghost customers_are: { HasCustomers stages arcs.now customers.items },
 }
 
 impl<'a> Links<'a> {
+    pub fn new(alloc: Global, stages: usize, arcs: &'a [SupplyArc]) -> Result<Links<'a>, NoMemory>
+        requires few { stages < 2 ^ 32 }
+        requires ends { HasEnds stages arcs.now }
+        ensures stages { IfOk result (λ links. links.stages ≡ stages) }
+        ensures arcs { IfOk result (λ links. links.arcs.now ≡ arcs.now) }
+    {
+        Ok(Links {
+            stages,
+            arcs,
+            customers: customer_lists(alloc, stages, arcs)?,
+        })
+    }
+
     /// The customers of a stage, in the order of the arcs.
     pub fn customers_of(&self, stage: u32) -> &[u32]
         requires { stage < self.now.stages }
@@ -37,7 +50,7 @@ fn empty_lists(alloc: Global, stages: usize) -> Result<Vec<List<u32>>, NoMemory>
 }
 
 /// For each stage its customers, in the order of the arcs.
-pub fn customer_lists(
+fn customer_lists(
     alloc: Global,
     stages: usize,
     arcs: &[SupplyArc],

@@ -1,10 +1,10 @@
 // The order in which suppliers come first.
-ghost use Rattle.std.specs.Prelude.{IfOk};
-ghost use Rattle.service_model.specs.Orders.{IsFront};
+ghost use Rattle.std.specs.Prelude.{IfOk, length};
+ghost use Rattle.service_model.specs.Orders.{IsFront, IsTopological};
 
 use crate::links::Links;
 use crate::waits::{first_ready, release, waits_of};
-use crate::{List, NoMemory};
+use crate::{List, Network, NoMemory};
 use std::alloc::Global;
 
 /// Takes again and again the lowest stage whose suppliers were all taken, until there is none.
@@ -18,5 +18,14 @@ pub fn front(alloc: Global, links: &Links) -> Result<List<u32>, NoMemory>
         order.push(stage)?;
         release(links.customers_of(stage), &mut waits, &mut ready)?;
     }
+    Ok(order)
+}
+
+/// All stages, each after its suppliers: again and again the lowest stage whose suppliers were all taken.
+pub fn topological_order(alloc: Global, network: &Network) -> Result<List<u32>, NoMemory>
+    ensures { IfOk result (IsTopological (length network.now.stages) network.now.arcs) }
+{
+    let links = Links::new(alloc, network.stages().len(), network.arcs().as_slice())?;
+    let order = front(alloc, &links)?;
     Ok(order)
 }
