@@ -27,7 +27,7 @@ pub record FrontSoFar (stages : ℕ) (arcs : List SupplyArc) (order ready waits 
 pub few_ready : (stages : ℕ) (arcs : List SupplyArc) (order : List ℕ) → ComesNext stages arcs order → length order ≤ stages
 few_ready stages arcs order next = few_new order stages (λ k inside. (next k inside).ready.stage) (λ k inside. (next k inside).ready.new)
 
--- a listed stage's suppliers are taken
+-- a taken stage's suppliers are taken
 pub supplier_taken : (stages : ℕ) (arcs : List SupplyArc) (order : List ℕ) (i j : ℕ) → ComesNext stages arcs order → Contains order j → Leads arcs i j → Contains order i
 supplier_taken stages arcs order i j next at l =
     let k = at.0 in

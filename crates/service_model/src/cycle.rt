@@ -47,7 +47,8 @@ pub fn first_on_cycle(
     ensures first { IfOk result (IsFirstOnCycle stages arcs.now) }
 {
     let links = Links::new(alloc, stages, arcs)?;
-    if front(alloc, &links)?.len() == stages {
+    let order = front(alloc, &links)?;
+    if order.len() == stages {
         return Ok(None);
     }
     lowest_on_cycle(alloc, &links)

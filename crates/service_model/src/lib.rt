@@ -13,6 +13,8 @@ mod order;
 mod plan;
 mod ready;
 mod stage;
+#[cfg(test)]
+mod tests_orders;
 mod waits;
 
 pub use breaks::Break;
