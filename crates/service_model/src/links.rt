@@ -17,6 +17,7 @@ pub struct Links<'a> {
 }
 
 impl<'a> Links<'a> {
+    /// Sorts the arcs by their suppliers.
     pub fn new(alloc: Global, stages: usize, arcs: &'a [SupplyArc]) -> Result<Links<'a>, NoMemory>
         requires few { stages < 2 ^ 32 }
         requires ends { HasEnds stages arcs.now }

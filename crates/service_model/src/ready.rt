@@ -47,6 +47,7 @@ impl Ready {
         Ok(())
     }
 
+    /// Takes the lowest stage out.
     pub fn take_lowest(&mut self) -> Option<u32>
         ensures some { IfSome result (λ stage. self.old ≡ stage ∷ self.new) }
         ensures lowest { IfSome result (λ stage. All (λ q. stage < q) self.new) }
