@@ -4,3 +4,7 @@ pub mod Plans
 pub mod Breaks
 pub mod Walks
 pub mod Faults
+pub mod Customers
+pub mod Orders
+pub mod Waits
+pub mod Marks
