@@ -1,0 +1,3 @@
+pub mod SearchFacts
+pub mod CostFacts
+pub mod PlanFacts
