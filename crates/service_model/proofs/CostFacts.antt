@@ -1,21 +1,13 @@
 -- What a plan costs, against the greatest entries of the cost lists.
-use Rattle.std.proofs.Common.{◌≡◌, ℕ, zero, suc, ◌+◌, ◌-◌, ◌<◌, ◌≤◌, Bool, true, false, leb, List, [], ◌∷◌, length, refl, arith}
-use Rattle.std.proofs.lemmas.Bool.Decides.{nat_tests}
+use Rattle.std.proofs.Common.{◌≡◌, ℕ, ◌+◌, ◌-◌, ◌<◌, ◌≤◌, Bool, true, false, leb, List, length, refl, arith}
 use Rattle.service_model.specs.declared.limits.TheConstants.{INF, MAX_PLAN_COST}
 use Rattle.service_model.specs.declared.plan.Plan.{Plan}
 use Rattle.service_model.specs.Net.{Net, stage_at}
 use Rattle.service_model.specs.Search.{sum_below}
-use Rattle.service_model.specs.Plans.{entry_of, charge, inbound_at, outbound_at, stage_cost, cost_of, Feasible}
+use Rattle.service_model.specs.Plans.{charge, inbound_at, outbound_at, stage_cost, cost_of, Feasible}
 use Rattle.service_model.specs.Faults.{top_of, IsNetwork}
+use Rattle.service_model.proofs.TopFacts.{entry_below_top}
 use Rattle.service_model.proofs.SearchFacts.{sum_below_le, sum_below_grows}
-
--- an allowed entry is at most the greatest
-pub entry_below_top : (cost : List ℕ) (time : ℕ) → entry_of cost time < INF → entry_of cost time ≤ top_of cost
-entry_below_top [] time allowed = absurd (omega arith)
-entry_below_top (x ∷ xs) zero allowed = grind (arith, nat_tests)
-entry_below_top (x ∷ xs) (suc time) allowed =
-    let rest : entry_of xs time ≤ top_of xs = entry_below_top xs time allowed in
-    grind (arith, nat_tests, rest)
 
 charge_cases : (lead : ℕ) (cost : List ℕ) (inbound outbound : ℕ) (b : Bool) → leb outbound (inbound + lead) ≡ b → charge lead cost inbound outbound < INF → charge lead cost inbound outbound ≤ top_of cost
 charge_cases lead cost inbound outbound true covered allowed =

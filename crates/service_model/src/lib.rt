@@ -2,6 +2,7 @@
 #![tactic(auto)]
 
 mod breaks;
+mod cycle;
 mod faults;
 mod limits;
 mod list;
