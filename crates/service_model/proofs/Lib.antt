@@ -1,5 +1,7 @@
 pub mod SearchFacts
 pub mod TopFacts
 pub mod EntryFacts
+pub mod EndFacts
+pub mod NetworkFacts
 pub mod CostFacts
 pub mod PlanFacts

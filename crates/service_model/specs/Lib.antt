@@ -4,3 +4,4 @@ pub mod Plans
 pub mod Breaks
 pub mod Walks
 pub mod Faults
+pub mod Ends

@@ -1,15 +1,18 @@
 // The rules on networks.
-ghost use Rattle.std.specs.Prelude.{◌≡◌, ℕ, ◌<◌, ◌^◌, ◌==◌, ◌||◌, Bool, List, length, nat_lt, take, position, option_map, IfSome};
+ghost use Rattle.std.specs.Prelude.{◌≡◌, ℕ, ◌<◌, ◌^◌, ◌==◌, ◌||◌, Bool, List, length, nat_lt, take, position, option_map, All, IfSome, IfOk};
 ghost use Rattle.std.specs.List.{list_any};
 ghost use Rattle.service_model.specs.Net.{Net, net_of};
 ghost use Rattle.service_model.specs.Search.{first_of};
-ghost use Rattle.service_model.specs.Faults.{fault_at, fails_if, fails_at, fails_below, has_bad_times, has_bad_length, top_of, has_bad_entry, has_bad_ends, has_long_transit, rules_before_cycle};
+ghost use Rattle.service_model.specs.Faults.{fault_at, fails_if, fails_at, fails_below, has_bad_times, has_bad_length, top_of, has_bad_entry, has_bad_ends, has_long_transit, rules_before_cycle, rules_from_cycle, FirstFromCycle, IsFirstFault};
 
+use crate::cycle::first_on_cycle;
+use crate::ends::twice_fault;
 use crate::limits::MAX_BEYOND;
 use crate::{
     INF, List, MAX_ARCS, MAX_HORIZON, MAX_PLAN_COST, MAX_STAGES, MAX_TIME, NoMemory, Stage,
     SupplyArc,
 };
+use std::alloc::Global;
 
 /// The first rule that a network breaks, by its number, and where: the count (rules 2 and 6), the number of the
 /// stage (3, 4, 5 and 9) or of the arc (7, 8 and 10), and 0 for rule 1.
@@ -25,6 +28,16 @@ pub enum NewFault {
     /// A rule fails, and it is the first.
     Rule(NetworkFault),
     NoMemory,
+}
+
+impl From<NoMemory> for NewFault {
+    ghost use Rattle.service_model.specs.declared.faults.NewFault.TheVariants.{NoMemory};
+
+    ghost from_gives = { λ _ fault. fault ≡ NoMemory };
+
+    fn from(_: NoMemory) -> Self {
+        NewFault::NoMemory
+    }
 }
 
 /// N1: the horizon is too long.
@@ -47,6 +60,54 @@ pub const ARC_TWICE: u8 = 8;
 pub const ON_CYCLE: u8 = 9;
 /// N10: a transit time is too long.
 pub const LONG_TRANSIT: u8 = 10;
+
+// The first rule that fails, none where all hold.
+pub(crate) fn fault_of(
+    alloc: Global,
+    horizon: u16,
+    stages: &[Stage],
+    arcs: &[SupplyArc],
+) -> Result<Option<NetworkFault>, NoMemory>
+    requires few_stages { length stages.now < 2 ^ 32 }
+    requires few_arcs { length arcs.now < 2 ^ 32 }
+    ensures { IfOk result (λ fault. IsFirstFault (net_of horizon stages.now arcs.now) fault) }
+{
+    match fault_before_cycle(alloc, horizon, stages, arcs)? {
+        Some(fault) => Ok(Some(fault)),
+        None => fault_from_cycle(alloc, stages, arcs),
+    }
+}
+
+fn fault_before_cycle(
+    alloc: Global,
+    horizon: u16,
+    stages: &[Stage],
+    arcs: &[SupplyArc],
+) -> Result<Option<NetworkFault>, NoMemory>
+    requires few_stages { length stages.now < 2 ^ 32 }
+    requires few_arcs { length arcs.now < 2 ^ 32 }
+    ensures { IfOk result (λ fault. fault ≡ first_of (rules_before_cycle (net_of horizon stages.now arcs.now))) }
+{
+    match fault_before_twice(horizon, stages, arcs) {
+        Some(fault) => Ok(Some(fault)),
+        None => twice_fault(alloc, arcs),
+    }
+}
+
+// The rule on cycles, and the one after it.
+fn fault_from_cycle(
+    alloc: Global,
+    stages: &[Stage],
+    arcs: &[SupplyArc],
+) -> Result<Option<NetworkFault>, NoMemory>
+    requires few_stages { length stages.now < 2 ^ 32 }
+    requires few_arcs { length arcs.now < 2 ^ 32 }
+    requires ends { All (λ a. (a.supplier < length stages.now) × (a.customer < length stages.now)) arcs.now }
+    ensures whatever_else { (horizon : ℕ) → IfOk result (λ fault. FirstFromCycle (net_of horizon stages.now arcs.now) fault) }
+{
+    let first = first_on_cycle(alloc, stages.len(), arcs)?;
+    Ok(cycle_fault(first).or_else(|| fault_at(LONG_TRANSIT, transit_place(arcs))))
+}
 
 // The first of the rules before the one on arcs that stand twice.
 #[tactic(auto, unfolding(crate::specs::Faults::fails_at))]
@@ -198,6 +259,15 @@ fn has_bad_ends(stages: usize, arc: &SupplyArc) -> bool
     arc.supplier as usize >= stages
         || arc.customer as usize >= stages
         || arc.supplier == arc.customer
+}
+
+fn cycle_fault(first: Option<u32>) -> Option<NetworkFault>
+    ensures { result ≡ option_map (fault_at ON_CYCLE) first }
+{
+    first.map(|place| NetworkFault {
+        rule: ON_CYCLE,
+        place,
+    })
 }
 
 fn transit_place(arcs: &[SupplyArc]) -> Option<usize>

@@ -3,6 +3,7 @@
 
 mod breaks;
 mod cycle;
+mod ends;
 mod faults;
 mod limits;
 mod list;

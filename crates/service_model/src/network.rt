@@ -1,6 +1,7 @@
 // A network on which every rule holds.
 ghost use Rattle.std.specs.Prelude.{◌≡◌, ◌+◌, ◌-◌, ◌<◌, ◌≤◌, ◌^◌, List, length};
 
+use crate::faults::fault_of;
 use crate::{List, MAX_PLAN_COST, NewFault, Plan, Stage, SupplyArc};
 use std::alloc::Global;
 use std::marker::Model;
@@ -41,7 +42,14 @@ impl Network {
         requires few_arcs { length arcs < 2 ^ 32 }
         ensures { MakesNetwork (net_of horizon stages arcs) result }
     {
-        Err(NewFault::NoMemory)
+        match fault_of(alloc, horizon, stages.as_slice(), arcs.as_slice())? {
+            Some(fault) => Err(NewFault::Rule(fault)),
+            None => Ok(Network {
+                horizon,
+                stages,
+                arcs,
+            }),
+        }
     }
 
     /// The horizon, in periods.
