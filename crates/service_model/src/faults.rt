@@ -1,17 +1,13 @@
-// The rules on networks.
-ghost use Rattle.std.specs.Prelude.{◌≡◌, ℕ, ◌<◌, ◌^◌, ◌==◌, ◌||◌, Bool, List, length, nat_lt, take, position, option_map, All, IfSome, IfOk};
-ghost use Rattle.std.specs.List.{list_any};
-ghost use Rattle.service_model.specs.Net.{Net, net_of};
+// The rules on networks, in their order.
+ghost use Rattle.std.specs.Prelude.{◌≡◌, ℕ, ◌-◌, ◌<◌, ◌^◌, length, take, option_map, All, IfSome, IfOk};
+ghost use Rattle.service_model.specs.Net.{net_of};
 ghost use Rattle.service_model.specs.Search.{first_of};
-ghost use Rattle.service_model.specs.Faults.{fault_at, fails_if, fails_at, fails_below, has_bad_times, has_bad_length, top_of, has_bad_entry, has_bad_ends, has_long_transit, rules_before_cycle, rules_from_cycle, FirstFromCycle, IsFirstFault};
+ghost use Rattle.service_model.specs.Faults.{fault_at, fails_if, rules_before_cycle, FirstFromCycle, IsFirstFault};
 
+use crate::arc_rules::{arc_count_fault, ends_place, transit_place, twice_fault};
 use crate::cycle::first_on_cycle;
-use crate::ends::twice_fault;
-use crate::limits::MAX_BEYOND;
-use crate::{
-    INF, List, MAX_ARCS, MAX_HORIZON, MAX_PLAN_COST, MAX_STAGES, MAX_TIME, NoMemory, Stage,
-    SupplyArc,
-};
+use crate::stage_rules::{entry_fault, length_place, stage_count_fault, times_place};
+use crate::{MAX_HORIZON, NoMemory, Stage, SupplyArc};
 use std::alloc::Global;
 
 /// The first rule that a network breaks, by its number, and where: the count (rules 2 and 6), the number of the
@@ -114,7 +110,7 @@ fn fault_from_cycle(
 fn fault_before_twice(horizon: u16, stages: &[Stage], arcs: &[SupplyArc]) -> Option<NetworkFault>
     requires few_stages { length stages.now < 2 ^ 32 }
     requires few_arcs { length arcs.now < 2 ^ 32 }
-    ensures { result ≡ first_of (take 7 (rules_before_cycle (net_of horizon stages.now arcs.now))) }
+    ensures { result ≡ first_of (take (ARC_TWICE - 1) (rules_before_cycle (net_of horizon stages.now arcs.now))) }
 {
     fault_if(LONG_HORIZON, horizon > MAX_HORIZON, 0)
         .or_else(|| stage_count_fault(stages))
@@ -127,7 +123,7 @@ fn fault_before_twice(horizon: u16, stages: &[Stage], arcs: &[SupplyArc]) -> Opt
 
 // A rule, where it fails.
 #[tactic(auto, unfolding(crate::specs::Faults::fails_if))]
-fn fault_if(rule: u8, fails: bool, place: u32) -> Option<NetworkFault>
+pub(crate) fn fault_if(rule: u8, fails: bool, place: u32) -> Option<NetworkFault>
     ensures { result ≡ fails_if rule fails place }
 {
     if fails {
@@ -138,7 +134,7 @@ fn fault_if(rule: u8, fails: bool, place: u32) -> Option<NetworkFault>
 }
 
 // A rule at a place, if there is one.
-fn fault_at(rule: u8, place: Option<usize>) -> Option<NetworkFault>
+pub(crate) fn fault_at(rule: u8, place: Option<usize>) -> Option<NetworkFault>
     requires { IfSome place (λ k. k < 2 ^ 32) }
     ensures { result ≡ option_map (fault_at rule) place }
 {
@@ -148,119 +144,6 @@ fn fault_at(rule: u8, place: Option<usize>) -> Option<NetworkFault>
     })
 }
 
-fn stage_count_fault(stages: &[Stage]) -> Option<NetworkFault>
-    requires { length stages.now < 2 ^ 32 }
-    ensures { result ≡ fails_if STAGE_COUNT ((length stages.now == 0) || nat_lt MAX_STAGES (length stages.now)) (length stages.now) }
-{
-    let fails = stages.is_empty() || stages.len() > MAX_STAGES;
-    fault_if(STAGE_COUNT, fails, stages.len() as u32)
-}
-
-fn times_place(horizon: u16, stages: &[Stage]) -> Option<usize>
-    ensures value { result ≡ position (has_bad_times horizon) stages.now }
-    ensures within { IfSome result (λ k. k < length stages.now) }
-{
-    stages
-        .iter()
-        .position(|stage| has_bad_times(horizon, stage))
-}
-
-#[tactic(auto, unfolding(crate::specs::Faults::has_bad_times))]
-fn has_bad_times(horizon: u16, stage: &Stage) -> bool
-    ensures { result ≡ has_bad_times horizon stage.now }
-{
-    stage.lead > MAX_TIME
-        || stage.supply > horizon
-        || stage.most > horizon
-        || stage.most < stage.least
-}
-
-fn length_place(horizon: u16, stages: &[Stage]) -> Option<usize>
-    ensures value { result ≡ position (has_bad_length horizon) stages.now }
-    ensures within { IfSome result (λ k. k < length stages.now) }
-{
-    stages
-        .iter()
-        .position(|stage| has_bad_length(horizon, stage))
-}
-
-#[tactic(auto, unfolding(crate::specs::Faults::has_bad_length))]
-fn has_bad_length(horizon: u16, stage: &Stage) -> bool
-    ensures { result ≡ has_bad_length horizon stage.now }
-{
-    stage.cost.len() == 0 || stage.cost.len() > horizon as usize + MAX_BEYOND
-}
-
-// The sum of the greatest entries is kept from stage to stage.
-fn entry_fault(stages: &[Stage]) -> Option<NetworkFault>
-    requires { length stages.now < 2 ^ 32 }
-    ensures whatever_else { (horizon : ℕ) (arcs : List SupplyArc) → result ≡ fails_below COST_ENTRY (has_bad_entry (net_of horizon stages.now arcs)) (length stages.now) }
-{
-    let mut tops: u64 = 0;
-    'stages: for j in 0..stages.len() {
-        let cost = stages[j].cost.as_slice();
-        tops += top_of(cost);
-        if let Some(fault) = entry_fault_at(j as u32, cost, tops) {
-            return Some(fault);
-        }
-    }
-    None
-}
-
-// A stage's entries are judged with the sum of the greatest ones of the stages up to it.
-fn entry_fault_at(place: u32, cost: &[u64], tops: u64) -> Option<NetworkFault>
-    ensures { result ≡ fails_if COST_ENTRY (list_any (nat_lt INF) cost.now || nat_lt MAX_PLAN_COST tops) place }
-{
-    fault_if(
-        COST_ENTRY,
-        has_entry_above(cost) || tops > MAX_PLAN_COST,
-        place,
-    )
-}
-
-fn has_entry_above(cost: &[u64]) -> bool
-    ensures { result ≡ list_any (nat_lt INF) cost.now }
-{
-    cost.iter().any(|entry| INF < *entry)
-}
-
-// The greatest allowed entry, 0 where there is none.
-#[tactic(auto, using(crate::proofs::TopFacts::top_of_more))]
-fn top_of(cost: &[u64]) -> u64
-    ensures { result ≡ top_of cost.now }
-{
-    let mut top: u64 = 0;
-    'entries: for entry in cost {
-        if *entry < INF {
-            top = top.max(*entry);
-        }
-    }
-    top
-}
-
-fn arc_count_fault(arcs: &[SupplyArc]) -> Option<NetworkFault>
-    requires { length arcs.now < 2 ^ 32 }
-    ensures { result ≡ fails_if ARC_COUNT (nat_lt MAX_ARCS (length arcs.now)) (length arcs.now) }
-{
-    fault_if(ARC_COUNT, arcs.len() > MAX_ARCS, arcs.len() as u32)
-}
-
-fn ends_place(stages: usize, arcs: &[SupplyArc]) -> Option<usize>
-    ensures value { result ≡ position (has_bad_ends stages) arcs.now }
-    ensures within { IfSome result (λ k. k < length arcs.now) }
-{
-    arcs.iter().position(|arc| has_bad_ends(stages, arc))
-}
-
-#[tactic(auto, unfolding(crate::specs::Faults::has_bad_ends))]
-fn has_bad_ends(stages: usize, arc: &SupplyArc) -> bool
-    ensures { result ≡ has_bad_ends stages arc.now }
-{
-    arc.supplier as usize >= stages
-        || arc.customer as usize >= stages
-        || arc.supplier == arc.customer
-}
-
 fn cycle_fault(first: Option<u32>) -> Option<NetworkFault>
     ensures { result ≡ option_map (fault_at ON_CYCLE) first }
 {
@@ -268,18 +151,4 @@ fn cycle_fault(first: Option<u32>) -> Option<NetworkFault>
         rule: ON_CYCLE,
         place,
     })
-}
-
-fn transit_place(arcs: &[SupplyArc]) -> Option<usize>
-    ensures value { result ≡ position has_long_transit arcs.now }
-    ensures within { IfSome result (λ k. k < length arcs.now) }
-{
-    arcs.iter().position(has_long_transit)
-}
-
-#[tactic(auto, unfolding(crate::specs::Faults::has_long_transit))]
-fn has_long_transit(arc: &SupplyArc) -> bool
-    ensures { result ≡ has_long_transit arc.now }
-{
-    arc.transit > MAX_TIME
 }

@@ -1,15 +1,16 @@
 //! The model of a supply network: stages, arcs, plans, what a plan costs, and the rules on both.
 #![tactic(auto)]
 
+mod arc_rules;
 mod breaks;
 mod cycle;
-mod ends;
 mod faults;
 mod limits;
 mod list;
 mod network;
 mod plan;
 mod stage;
+mod stage_rules;
 
 pub use breaks::Break;
 pub use faults::{NetworkFault, NewFault};

@@ -3,7 +3,7 @@ use Rattle.service_model.specs.declared.limits.TheConstants.{MAX_PLAN_COST}
 use Rattle.service_model.specs.Net.{net_of}
 use Rattle.service_model.specs.Faults.{tops_below}
 use Rattle.service_model.proofs.EntryFacts.{NoneSoFar}
-use Rattle.service_model.proofs.faults.entry_fault.Given as goal
+use Rattle.service_model.proofs.stage_rules.entry_fault.Given as goal
 
 abbrev pub invariant-stages : goal.invariant-stages
 invariant-stages l = record {

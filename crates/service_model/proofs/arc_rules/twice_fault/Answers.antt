@@ -3,7 +3,7 @@ use Rattle.service_model.specs.Net.{arc_in}
 use Rattle.service_model.specs.Ends.{has_ends}
 use Rattle.service_model.specs.Faults.{stands_twice}
 use Rattle.service_model.proofs.EndFacts.{twice_if_met, ends_more, not_twice_more, first_twice, none_twice}
-use Rattle.service_model.proofs.ends.twice_fault.Goals as goal
+use Rattle.service_model.proofs.arc_rules.twice_fault.Goals as goal
 
 pub returns-then-not-branch : goal.returns-then-not-branch
 returns-then-not-branch c =

@@ -5,7 +5,7 @@ use Rattle.service_model.specs.Net.{net_of}
 use Rattle.service_model.specs.Faults.{tops_below, fails_if}
 use Rattle.service_model.proofs.TopFacts.{top_below_INF}
 use Rattle.service_model.proofs.EntryFacts.{entry_test, tops_more, tops_small, entry_rule_is, none_more, first_entry_fault, no_entry_fault}
-use Rattle.service_model.proofs.faults.entry_fault.Goals as goal
+use Rattle.service_model.proofs.stage_rules.entry_fault.Goals as goal
 
 pub overflow_add-tops : goal.overflow_add-tops
 overflow_add-tops c =

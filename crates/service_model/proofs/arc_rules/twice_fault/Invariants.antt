@@ -5,7 +5,7 @@ use Rattle.service_model.specs.Search.{first_below}
 use Rattle.service_model.specs.Faults.{same_ends}
 use Rattle.service_model.specs.Ends.{has_ends}
 use Rattle.service_model.proofs.EndFacts.{twice_rule}
-use Rattle.service_model.proofs.ends.twice_fault.Given as goal
+use Rattle.service_model.proofs.arc_rules.twice_fault.Given as goal
 
 abbrev pub invariant-arcs : goal.invariant-arcs
 invariant-arcs l = record {
