@@ -5,3 +5,7 @@ pub mod Breaks
 pub mod Walks
 pub mod Faults
 pub mod Ends
+pub mod Customers
+pub mod Orders
+pub mod Waits
+pub mod Marks

@@ -42,7 +42,7 @@ pub(crate) fn twice_fault(
 {
     let mut met = BTreeSet::new(alloc);
     'arcs: for a in 0..arcs.len() {
-        if !are_new(&mut met, &arcs[a])? {
+        if !insert_ends(&mut met, &arcs[a])? {
             return Ok(Some(NetworkFault {
                 rule: ARC_TWICE,
                 place: a as u32,
@@ -53,7 +53,7 @@ pub(crate) fn twice_fault(
 }
 
 // Adds the ends of an arc, and tells whether they are new.
-fn are_new(met: &mut BTreeSet<(u32, u32)>, arc: &SupplyArc) -> Result<bool, NoMemory>
+fn insert_ends(met: &mut BTreeSet<(u32, u32)>, arc: &SupplyArc) -> Result<bool, NoMemory>
     ensures new { IfOk result (λ new. new ≡ not (has_ends met.old arc.now)) }
     ensures met { OnOk result ((other : SupplyArc) → has_ends met.new other ≡ (has_ends met.old other || same_ends other arc.now)) }
 {

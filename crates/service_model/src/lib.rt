@@ -6,16 +6,24 @@ mod breaks;
 mod cycle;
 mod faults;
 mod limits;
+mod links;
 mod list;
+mod marks;
 mod network;
+mod order;
 mod plan;
+mod ready;
 mod stage;
 mod stage_rules;
+#[cfg(test)]
+mod tests_orders;
+mod waits;
 
 pub use breaks::Break;
 pub use faults::{NetworkFault, NewFault};
 pub use limits::{INF, MAX_ARCS, MAX_HORIZON, MAX_PLAN_COST, MAX_STAGES, MAX_TIME};
 pub use list::{List, NoMemory};
 pub use network::Network;
+pub use order::topological_order;
 pub use plan::Plan;
 pub use stage::{Stage, SupplyArc};

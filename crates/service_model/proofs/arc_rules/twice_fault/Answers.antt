@@ -20,7 +20,7 @@ arcs-preserved c =
     let new : has_ends c.arcs.met (arc_in arcs a) ≡ false = search rules in
     let once : false ≡ stands_twice arcs a = twice_if_met arcs a false (sym new ∙ c.arcs.invariant.met (arc_in arcs a)) in
     record {
-      met = λ other. c.in_ok-are_new.ensures.met other ∙ ends_more arcs a other (has_ends c.arcs.met other) (c.arcs.invariant.met other) c.arcs-test.true;
+      met = λ other. c.in_ok-insert_ends.ensures.met other ∙ ends_more arcs a other (has_ends c.arcs.met other) (c.arcs.invariant.met other) c.arcs-test.true;
       none = not_twice_more arcs a c.arcs.invariant.none (sym once);
     }
 

@@ -1,7 +1,7 @@
 use Rattle.std.proofs.Common.{◌∙◌}
 use Rattle.service_model.specs.Ends.{has_ends}
 use Rattle.service_model.proofs.EndFacts.{one_more_pair}
-use Rattle.service_model.proofs.arc_rules.are_new.Goals as goal
+use Rattle.service_model.proofs.arc_rules.insert_ends.Goals as goal
 
 pub returns-clause-met : goal.returns-clause-met
 returns-clause-met c = λ other.

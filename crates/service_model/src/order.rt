@@ -1,0 +1,31 @@
+// The order in which suppliers come first.
+ghost use Rattle.std.specs.Prelude.{IfOk, length};
+ghost use Rattle.service_model.specs.Orders.{IsFront, IsTopological};
+
+use crate::links::Links;
+use crate::waits::{first_ready, release, waits_of};
+use crate::{List, Network, NoMemory};
+use std::alloc::Global;
+
+/// Takes again and again the lowest stage whose suppliers were all taken, until there is none.
+pub fn front(alloc: Global, links: &Links) -> Result<List<u32>, NoMemory>
+    ensures { IfOk result (IsFront links.now.stages links.now.arcs.now) }
+{
+    let mut waits = waits_of(alloc, links.stages, links.arcs)?;
+    let mut ready = first_ready(alloc, &waits)?;
+    let mut order = List::new(alloc);
+    'turns: while let Some(stage) = ready.take_lowest() {
+        order.push(stage)?;
+        release(links.customers_of(stage), &mut waits, &mut ready)?;
+    }
+    Ok(order)
+}
+
+/// All stages, each after its suppliers: again and again the lowest stage whose suppliers were all taken.
+pub fn topological_order(alloc: Global, network: &Network) -> Result<List<u32>, NoMemory>
+    ensures { IfOk result (IsTopological (length network.now.stages) network.now.arcs) }
+{
+    let links = Links::new(alloc, network.stages().len(), network.arcs().as_slice())?;
+    let order = front(alloc, &links)?;
+    Ok(order)
+}
