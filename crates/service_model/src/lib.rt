@@ -16,6 +16,8 @@ mod ready;
 mod stage;
 mod stage_rules;
 #[cfg(test)]
+mod tests;
+#[cfg(test)]
 mod tests_orders;
 mod waits;
 
