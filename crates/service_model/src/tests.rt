@@ -2,13 +2,18 @@ use crate::{
     Break, INF, List, MAX_ARCS, MAX_STAGES, Network, NetworkFault, NewFault, NoMemory, Plan, Stage,
     SupplyArc,
 };
-use std::alloc::Global;
+use std::alloc::{AllocError, Global};
 use std::test::Fail;
 
 // Lead, supply, least and most of a stage, and its cost list.
 type Row<'a> = ([u16; 4], &'a [u64]);
 
 const FREE: Row<'static> = ([0, 0, 0, 0], &[0]);
+
+const DEAR: u64 = 4_000_000_000_000_000_000;
+
+// A rule, and the place where it is the first that fails, of stages and arcs at horizon 0.
+type Refusal<'a> = (u8, u32, &'a [Row<'a>], &'a [SupplyArc]);
 
 // From a supplier to a customer, so many periods on the way.
 fn arc(supplier: u32, customer: u32, transit: u16) -> SupplyArc {
@@ -47,93 +52,94 @@ fn network(
     Network::new(alloc, horizon, stages, arcs)
 }
 
-// Whether these make no network, and the rule is the first that fails.
-fn is_refused(
-    alloc: Global,
-    horizon: u16,
-    rows: &[Row],
-    arcs: &[SupplyArc],
-    rule: u8,
-    place: u32,
-) -> bool {
+fn is_refused(alloc: Global, horizon: u16, refusal: Refusal) -> bool {
+    let (rule, place, rows, arcs) = refusal;
     let fault = NetworkFault { rule, place };
     network(alloc, horizon, rows, arcs).err() == Some(NewFault::Rule(fault))
 }
 
-#[test]
-fn the_first_rule_that_a_network_breaks_is_named(rt: HostRuntime) -> Result<(), Fail> {
-    let alloc = rt.alloc();
-    let counts: [(u16, &[Row], &[SupplyArc], u8, u32); 4] = [
-        (401, &[], &[], 1, 0),
-        (400, &[], &[], 2, 0),
-        (0, &[FREE; MAX_STAGES + 1], &[], 2, 1_001),
-        (0, &[FREE; 2], &[arc(0, 1, 0); MAX_ARCS + 1], 6, 5_001),
-    ];
-    for (horizon, rows, arcs, rule, place) in counts {
-        assert!(rt;
-            is_refused(alloc, horizon, rows, arcs, rule, place),
-            "N{rule} of a count"
-        );
-    }
-
-    let seconds: [(Row, u8); 8] = [
-        (([1_001, 0, 0, 0], &[0]), 3),
-        (([0, 1, 0, 0], &[0]), 3),
-        (([0, 0, 0, 1], &[0]), 3),
-        (([0, 0, 1, 0], &[0]), 3),
-        (([0, 0, 0, 0], &[]), 4),
-        (([0, 0, 0, 0], &[0; 1_002]), 4),
-        (([0, 0, 0, 0], &[INF + 1]), 5),
-        (([0, 0, 0, 0], &[0, 4_000_000_000_000_000_001, INF]), 5),
-    ];
-    for (second, rule) in seconds {
-        assert!(rt;
-            is_refused(alloc, 0, &[FREE, second, FREE], &[], rule, 1),
-            "N{rule} of a stage"
-        );
-    }
-    let late: Row = ([1_001, 0, 0, 0], &[0]);
-    let empty: Row = ([0, 0, 0, 0], &[]);
-    assert!(rt;
-        is_refused(alloc, 0, &[empty, late], &[], 3, 1),
-        "N3 comes before N4"
-    );
-    let dear: Row = ([0, 0, 0, 0], &[4_000_000_000_000_000_000]);
-    let one: Row = ([0, 0, 0, 0], &[1]);
-    let above: Row = ([0, 0, 0, 0], &[INF + 1]);
-    assert!(rt;
-        is_refused(alloc, 0, &[dear, one, above], &[], 5, 1),
-        "N5 by the sum first"
-    );
-
-    let arcs: [([SupplyArc; 2], u8, u32); 6] = [
-        ([arc(0, 1, 0), arc(3, 1, 0)], 7, 1),
-        ([arc(0, 3, 0), arc(0, 3, 0)], 7, 0),
-        ([arc(0, 1, 0), arc(2, 2, 0)], 7, 1),
-        ([arc(1, 2, 0), arc(1, 2, 3)], 8, 1),
-        ([arc(2, 1, 0), arc(1, 2, 1_001)], 9, 1),
-        ([arc(0, 1, 1_000), arc(1, 2, 1_001)], 10, 1),
-    ];
-    for (arcs, rule, place) in arcs {
-        assert!(rt;
-            is_refused(alloc, 0, &[FREE; 3], &arcs, rule, place),
-            "N{rule} of an arc"
-        );
-    }
-    Ok(())
+// The first of these that is not refused so.
+fn first_unlike(alloc: Global, refusals: &[Refusal]) -> Option<usize> {
+    refusals
+        .iter()
+        .position(|refusal| !is_refused(alloc, 0, *refusal))
 }
 
 #[test]
-fn a_network_at_every_limit_is_made(rt: HostRuntime) -> Result<(), Fail> {
-    let never: Row = ([1_000, 400, 400, 400], &[INF; 1_401]);
-    let dear: Row = ([0, 0, 0, 0], &[4_000_000_000_000_000_000]);
-    let made = network(rt.alloc(), 400, &[never, dear], &[arc(0, 1, 1_000)])?;
-    assert_eq!(rt; made.horizon(), 400);
-    assert_eq!(rt; made.stages().len(), 2);
-    assert_eq!(rt; made.cost_at(1, 0), 4_000_000_000_000_000_000);
-    assert_eq!(rt; made.cost_at(1, 1), INF);
+fn the_first_rule_on_stages_that_fails_is_named(rt: HostRuntime) {
+    let late: Row = ([1_001, 0, 0, 0], &[0]);
+    let empty: Row = ([0, 0, 0, 0], &[]);
+    let above: Row = ([0, 0, 0, 0], &[INF + 1]);
+    let one: Row = ([0, 0, 0, 0], &[1]);
+    let unlike = first_unlike(
+        rt.alloc(),
+        &[
+            (2, 0, &[], &[]),
+            (3, 1, &[FREE, late], &[]),
+            (3, 1, &[FREE, ([0, 1, 0, 0], &[0])], &[]),
+            (3, 1, &[FREE, ([0, 0, 0, 1], &[0])], &[]),
+            (3, 1, &[FREE, ([0, 0, 1, 0], &[0])], &[]),
+            (3, 1, &[empty, late], &[]),
+            (4, 1, &[FREE, empty], &[]),
+            (4, 1, &[above, empty], &[]),
+            (5, 1, &[FREE, above], &[]),
+            (5, 1, &[([0, 0, 0, 0], &[DEAR]), one, above], &[]),
+        ],
+    );
+    assert_eq!(rt; unlike, None);
+}
 
-    let mut arcs = Vec::new(rt.alloc());
+#[test]
+fn the_first_rule_on_arcs_that_fails_is_named(rt: HostRuntime) {
+    let three = [FREE, FREE, FREE];
+    let unlike = first_unlike(
+        rt.alloc(),
+        &[
+            (7, 1, &three, &[arc(0, 1, 0), arc(3, 1, 0)]),
+            (7, 0, &three, &[arc(0, 3, 0), arc(0, 3, 0)]),
+            (7, 1, &three, &[arc(0, 1, 0), arc(2, 2, 0)]),
+            (8, 1, &three, &[arc(1, 2, 0), arc(1, 2, 3)]),
+            (9, 1, &three, &[arc(2, 1, 0), arc(1, 2, 1_001)]),
+            (10, 1, &three, &[arc(0, 1, 1_000), arc(1, 2, 1_001)]),
+        ],
+    );
+    assert_eq!(rt; unlike, None);
+}
+
+// Whether one stage, arc or entry too many is refused.
+fn are_refused(alloc: Global) -> Result<[bool; 3], AllocError> {
+    let rows = vec![in alloc; FREE; MAX_STAGES + 1]?;
+    let arcs = vec![in alloc; arc(0, 1, 0); MAX_ARCS + 1]?;
+    let entries = vec![in alloc; 0; 1_002]?;
+    let long: Row = ([0, 0, 0, 0], entries.as_slice());
+    Ok([
+        is_refused(alloc, 0, (2, 1_001, rows.as_slice(), &[])),
+        is_refused(alloc, 0, (4, 0, &[long], &[])),
+        is_refused(alloc, 0, (6, 5_001, &[FREE, FREE], arcs.as_slice())),
+    ])
+}
+
+#[test]
+fn what_is_past_a_limit_is_refused(rt: HostRuntime) -> Result<(), Fail> {
+    assert!(rt; is_refused(rt.alloc(), 401, (1, 0, &[], &[])));
+    assert_eq!(rt; are_refused(rt.alloc())?, [true; 3]);
+    Ok(())
+}
+
+// Each number at its limit, but for the counts of stages and arcs.
+fn greatest(alloc: Global) -> Result<Network, NewFault> {
+    let entries = vec![in alloc; INF; 1_401].map_err(NoMemory::from)?;
+    let rows: [Row; 2] = [
+        ([1_000, 400, 400, 400], entries.as_slice()),
+        ([0, 0, 0, 0], &[DEAR]),
+    ];
+    network(alloc, 400, &rows, &[arc(0, 1, 1_000)])
+}
+
+// As many stages and arcs as there may be, each arc from a stage to one of the six after it.
+fn fullest(alloc: Global) -> Result<Network, NewFault> {
+    let rows = vec![in alloc; FREE; MAX_STAGES].map_err(NoMemory::from)?;
+    let mut arcs = List::new(alloc);
     for supplier in 0..MAX_STAGES as u32 {
         for step in 1..7 {
             if supplier + step < MAX_STAGES as u32 && arcs.len() < MAX_ARCS {
@@ -141,19 +147,34 @@ fn a_network_at_every_limit_is_made(rt: HostRuntime) -> Result<(), Fail> {
             }
         }
     }
-    let full = network(rt.alloc(), 0, &[FREE; MAX_STAGES], arcs.as_slice())?;
-    assert_eq!(rt; full.arcs().len(), MAX_ARCS);
+    network(alloc, 0, rows.as_slice(), arcs.as_slice())
+}
+
+// The horizon, the counts, and the last stage's costs at 0 and 1.
+fn seen(network: &Network) -> (u16, usize, usize, u64, u64) {
+    let stages = network.stages().len();
+    let last = stages as u32 - 1;
+    (
+        network.horizon(),
+        stages,
+        network.arcs().len(),
+        network.cost_at(last, 0),
+        network.cost_at(last, 1),
+    )
+}
+
+#[test]
+fn a_network_at_its_limits_is_made(rt: HostRuntime) -> Result<(), Fail> {
+    assert_eq!(rt; seen(&greatest(rt.alloc())?), (400, 2, 1, DEAR, INF));
+    assert_eq!(rt; seen(&fullest(rt.alloc())?), (0, 1_000, 5_000, 0, INF));
     Ok(())
 }
 
-// Whether this comes of the plan: its cost where it is feasible, and its first break where it is not.
-fn comes_of(
-    alloc: Global,
-    network: &Network,
-    inbound: &[u16],
-    outbound: &[u16],
-    answer: Result<u64, (u8, u32)>,
-) -> Result<bool, NoMemory> {
+// The times of each stage, inbound first, and what comes of them: the cost, or the first break.
+type Times<'a> = (&'a [u16], &'a [u16], Result<u64, (u8, u32)>);
+
+fn comes_of(alloc: Global, network: &Network, times: Times) -> Result<bool, NoMemory> {
+    let (inbound, outbound, answer) = times;
     let plan = Plan {
         inbound: List::copied(alloc, inbound)?,
         outbound: List::copied(alloc, outbound)?,
@@ -169,9 +190,15 @@ fn comes_of(
     Ok(found == answer)
 }
 
+// The first plan of which something else comes.
+fn first_other(alloc: Global, network: &Network, plans: &[Times]) -> Option<usize> {
+    plans
+        .iter()
+        .position(|times| comes_of(alloc, network, *times) != Ok(true))
+}
+
 #[test]
-fn a_plan_has_a_cost_or_a_first_break(rt: HostRuntime) -> Result<(), Fail> {
-    let alloc = rt.alloc();
+fn a_plan_for_the_diamond_has_a_cost_or_a_first_break(rt: HostRuntime) -> Result<(), Fail> {
     let rows: [Row; 4] = [
         ([2, 0, 0, 2], &[0, 3, 7]),
         ([0, 0, 0, 2], &[0, 6, 6]),
@@ -179,35 +206,39 @@ fn a_plan_has_a_cost_or_a_first_break(rt: HostRuntime) -> Result<(), Fail> {
         ([0, 0, 0, 0], &[0, 8, 8]),
     ];
     let arcs = [arc(0, 1, 0), arc(0, 2, 0), arc(1, 3, 0), arc(2, 3, 0)];
-    let diamond = network(alloc, 2, &rows, &arcs)?;
-    for (inbound, outbound, answer) in [
-        ([0, 2, 2, 0], [2, 0, 0, 0], Ok(7)),
-        ([3, 2, 2, 0], [2, 0, 0, 0], Err((2, 0))),
-        ([0, 2, 2, 0], [2, 0, 0, 1], Err((4, 3))),
-        ([0, 0, 2, 0], [2, 1, 0, 0], Err((5, 1))),
-        ([1, 2, 2, 0], [0, 0, 0, 0], Err((6, 0))),
-        ([0, 2, 2, 0], [2, 0, 2, 0], Err((7, 3))),
-        ([0, 1, 2, 1], [2, 0, 0, 1], Err((4, 3))),
-    ] {
-        assert!(rt;
-            comes_of(alloc, &diamond, &inbound, &outbound, answer)?,
-            "the diamond: {answer:?}"
-        );
-    }
+    let diamond = network(rt.alloc(), 2, &rows, &arcs)?;
+    let other = first_other(
+        rt.alloc(),
+        &diamond,
+        &[
+            (&[0, 2, 2, 0], &[2, 0, 0, 0], Ok(7)),
+            (&[3, 2, 2, 0], &[2, 0, 0, 0], Err((2, 0))),
+            (&[0, 2, 2, 0], &[2, 0, 0, 1], Err((4, 3))),
+            (&[0, 0, 2, 0], &[2, 1, 0, 0], Err((5, 1))),
+            (&[1, 2, 2, 0], &[0, 0, 0, 0], Err((6, 0))),
+            (&[0, 2, 2, 0], &[2, 0, 2, 0], Err((7, 3))),
+            (&[0, 1, 2, 0], &[2, 0, 0, 1], Err((4, 3))),
+        ],
+    );
+    assert_eq!(rt; other, None);
+    Ok(())
+}
 
+#[test]
+fn a_transit_and_a_time_that_is_not_allowed_break_a_plan(rt: HostRuntime) -> Result<(), Fail> {
     let rows: [Row; 2] = [([0, 1, 1, 2], &[5, INF]), ([0, 0, 0, 0], &[0, 0, 2])];
-    let pair = network(alloc, 2, &rows, &[arc(0, 1, 1)])?;
-    for (inbound, outbound, answer) in [
-        ([1, 2], [1, 0], Ok(7)),
-        ([0, 2], [1, 0], Err((1, 0))),
-        ([1, 2], [0, 0], Err((3, 0))),
-        ([2, 2], [1, 0], Err((6, 0))),
-        ([1, 1], [1, 0], Err((7, 0))),
-    ] {
-        assert!(rt;
-            comes_of(alloc, &pair, &inbound, &outbound, answer)?,
-            "a transit and a time that is not allowed: {answer:?}"
-        );
-    }
+    let pair = network(rt.alloc(), 2, &rows, &[arc(0, 1, 1)])?;
+    let other = first_other(
+        rt.alloc(),
+        &pair,
+        &[
+            (&[1, 2], &[1, 0], Ok(7)),
+            (&[0, 2], &[1, 0], Err((1, 0))),
+            (&[1, 2], &[0, 0], Err((3, 0))),
+            (&[2, 2], &[1, 0], Err((6, 0))),
+            (&[1, 1], &[1, 0], Err((7, 0))),
+        ],
+    );
+    assert_eq!(rt; other, None);
     Ok(())
 }
