@@ -1,3 +1,5 @@
+ghost use Rattle.std.specs.Prelude.{◌≡◌, IfOk};
+
 use crate::{
     Break, INF, List, MAX_ARCS, MAX_STAGES, Network, NetworkFault, NewFault, NoMemory, Plan, Stage,
     SupplyArc,
@@ -170,24 +172,34 @@ fn a_network_at_its_limits_is_made(rt: HostRuntime) -> Result<(), Fail> {
     Ok(())
 }
 
-// The times of each stage, inbound first, and what comes of them: the cost, or the first break.
+// What comes of a plan: its cost, or the first rule that it breaks and where; none where it lacks a time.
+fn judged(network: &Network, plan: &Plan) -> Option<Result<u64, (u8, u32)>> {
+    let count = network.stages().len();
+    if plan.inbound.len() != count || plan.outbound.len() != count {
+        return None;
+    }
+    Some(match network.first_break(plan) {
+        Some(Break { rule, place }) => Err((rule, place)),
+        None => Ok(network.cost(plan)),
+    })
+}
+
+fn plan(alloc: Global, inbound: &[u16], outbound: &[u16]) -> Result<Plan, NoMemory>
+    ensures { IfOk result (λ p. (p.inbound ≡ inbound.now) × (p.outbound ≡ outbound.now)) }
+{
+    Ok(Plan {
+        inbound: List::copied(alloc, inbound)?,
+        outbound: List::copied(alloc, outbound)?,
+    })
+}
+
+// The times of each stage, inbound first, and what comes of them.
 type Times<'a> = (&'a [u16], &'a [u16], Result<u64, (u8, u32)>);
 
 fn comes_of(alloc: Global, network: &Network, times: Times) -> Result<bool, NoMemory> {
     let (inbound, outbound, answer) = times;
-    let plan = Plan {
-        inbound: List::copied(alloc, inbound)?,
-        outbound: List::copied(alloc, outbound)?,
-    };
-    let count = network.stages().len();
-    if plan.inbound.len() != count || plan.outbound.len() != count {
-        return Ok(false);
-    }
-    let found = match network.first_break(&plan) {
-        Some(Break { rule, place }) => Err((rule, place)),
-        None => Ok(network.cost(&plan)),
-    };
-    Ok(found == answer)
+    let plan = plan(alloc, inbound, outbound)?;
+    Ok(judged(network, &plan) == Some(answer))
 }
 
 // The first plan of which something else comes.
@@ -240,5 +252,26 @@ fn a_transit_and_a_time_that_is_not_allowed_break_a_plan(rt: HostRuntime) -> Res
         ],
     );
     assert_eq!(rt; other, None);
+    Ok(())
+}
+
+// A supplier that takes two periods, and a customer that sells at once.
+fn line(alloc: Global) -> Result<Network, NewFault> {
+    let mut stages = List::new(alloc);
+    stages.push(stage(alloc, ([2, 0, 0, 2], &[0, 3, 7]))?)?;
+    stages.push(stage(alloc, ([0, 0, 0, 0], &[0, 8, 9]))?)?;
+    let arcs = vec![in alloc; arc(0, 1, 0)].map_err(NoMemory::from)?;
+    Network::new(alloc, 2, stages, List::from_vec(arcs))
+}
+
+#[test]
+fn a_customer_has_to_wait_for_what_its_supplier_quotes(rt: HostRuntime) -> Result<(), Fail> {
+    let network = line(rt.alloc())?;
+    let mut plan = plan(rt.alloc(), &[0, 1], &[1, 0])?;
+    assert_eq!(rt; judged(&network, &plan), Some(Ok(11)));
+    plan.outbound.set(0, 2);
+    assert_eq!(rt; judged(&network, &plan), Some(Err((7, 0))));
+    plan.inbound.set(1, 2);
+    assert_eq!(rt; judged(&network, &plan), Some(Ok(9)));
     Ok(())
 }
