@@ -1,5 +1,5 @@
 -- The rule on entries, one stage further.
-use Rattle.std.proofs.Common.{◌≡◌, ℕ, suc, ◌+◌, ◌<◌, ◌≤◌, Bool, true, false, ◌||◌, nat_lt, Option, Some, None, List, [], length, get_or, refl, sym, ap, arith, add-one, ◌∙◌}
+use Rattle.std.proofs.Common.{◌≡◌, ℕ, suc, ◌+◌, ◌<◌, ◌≤◌, Bool, false, ◌||◌, nat_lt, Option, Some, None, List, [], length, get_or, refl, sym, ap, arith, add-one, ◌∙◌}
 use Rattle.std.specs.List.{list_any}
 use Rattle.std.proofs.lemmas.List.{get_or_default}
 use Rattle.std.proofs.lemmas.Bool.Decides.{nat_tests}
@@ -11,13 +11,8 @@ use Rattle.service_model.specs.declared.stage.SupplyArc.{SupplyArc}
 use Rattle.service_model.specs.Net.{net_of, no_stage}
 use Rattle.service_model.specs.Search.{first_below}
 use Rattle.service_model.specs.Faults.{fails_if, fails_below, has_bad_entry, tops_below, top_of}
+use Rattle.service_model.proofs.FaultFacts.{no_fault}
 use Rattle.service_model.proofs.SearchFacts.{first_below_step, first_below_found}
-
--- a rule that does not fail
-pub no_fault : (rule : ℕ) (fails : Bool) (place : ℕ) → fails_if rule fails place ≡ None → fails ≡ false
-unfolding fails_if
-no_fault rule true place none = cc
-no_fault rule false place none = refl
 
 -- the rule on entries at one stage
 abbrev pub entry_rule : ℕ → List Stage → List SupplyArc → ℕ → Option NetworkFault

@@ -1,9 +1,8 @@
 -- A network on which no rule fails keeps the limits.
-use Rattle.std.proofs.Common.{◌≡◌, ◌≢◌, ℕ, suc, ◌+◌, ◌-◌, ◌<◌, ◌≤◌, ◌||◌, Bool, true, false, eqb, ltb, Option, Some, None, List, length, get_or, take, cond, option_map, refl, sym, subst, arith}
+use Rattle.std.proofs.Common.{◌≡◌, ◌≢◌, ℕ, suc, ◌+◌, ◌-◌, ◌<◌, ◌≤◌, ◌||◌, Bool, true, false, eqb, ltb, Option, Some, None, List, length, get_or, take, refl, sym, subst, arith}
 use Rattle.std.specs.Prelude.{All, Result, Ok, Err, IfOk, IsErrAnd}
-use Rattle.std.specs.List.{position_or_len, list_any}
+use Rattle.std.specs.List.{list_any}
 use Rattle.std.proofs.lemmas.List.{get_or-take, length-take}
-use Rattle.std.proofs.lemmas.List.Sums.{fails_before_first}
 use Rattle.std.proofs.lemmas.List.Folds.{list_any_at}
 use Rattle.std.proofs.lemmas.Bool.{ltb-false}
 use Rattle.std.proofs.lemmas.Bool.Decides.{nat_tests}
@@ -18,24 +17,9 @@ use Rattle.service_model.specs.declared.stage.SupplyArc.{SupplyArc}
 use Rattle.service_model.specs.Net.{Net, net_of, stage_at, no_stage, arc_in, no_arc}
 use Rattle.service_model.specs.Search.{first_of}
 use Rattle.service_model.specs.Walks.{NoCycle}
-use Rattle.service_model.specs.Faults.{fault_at, fails_if, fails_at, fails_below, has_bad_times, has_bad_length, has_bad_entry, has_bad_ends, has_long_transit, same_ends, IsSameEnds, stands_twice, tops_below, rules_before_cycle, rules_from_cycle, FirstFromCycle, IsFirstFault, StageWithin, ArcWithin, IsNetwork, MakesNetwork}
-use Rattle.service_model.proofs.SearchFacts.{first_of_none, none_below}
-use Rattle.service_model.proofs.EntryFacts.{no_fault}
-
-not_there : (b : Bool) (rule i : ℕ) → option_map (fault_at rule) (cond b (Some i) None) ≡ None → b ≡ false
-not_there true rule i none = cc
-not_there false rule i none = refl
-
--- a rule that fails at no item
-pub none_fails_at : {A : Type 0} (rule : ℕ) (fails : A → Bool) (items : List A) → fails_at rule fails items ≡ None → (k : ℕ) (d : A) → k < length items → fails (get_or items k d) ≡ false
-unfolding fails_at
-none_fails_at rule fails items none k d within =
-    fails_before_first fails items k d (omega (arith, ltb-false (position_or_len fails items) (length items) (not_there _ rule _ none)))
-
-pub none_fails_below : (rule : ℕ) (fails : ℕ → Bool) (count : ℕ) → fails_below rule fails count ≡ None → (k : ℕ) → k < count → fails k ≡ false
-unfolding fails_below
-none_fails_below rule fails count none k within =
-    no_fault rule (fails k) k (none_below (λ k. fails_if rule (fails k) k) count none k within)
+use Rattle.service_model.specs.Faults.{fails_at, has_bad_times, has_bad_length, has_bad_entry, has_bad_ends, has_long_transit, same_ends, IsSameEnds, stands_twice, tops_below, rules_before_cycle, rules_from_cycle, FirstFromCycle, IsFirstFault, StageWithin, ArcWithin, IsNetwork, MakesNetwork}
+use Rattle.service_model.proofs.SearchFacts.{first_of_none}
+use Rattle.service_model.proofs.FaultFacts.{no_fault, none_fails_at, none_fails_below}
 
 good_times : (horizon : ℕ) (s : Stage) → has_bad_times horizon s ≡ false → (s.lead ≤ MAX_TIME) × (s.supply ≤ horizon) × (s.most ≤ horizon) × (s.least ≤ s.most)
 unfolding has_bad_times

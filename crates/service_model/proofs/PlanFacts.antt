@@ -1,5 +1,5 @@
 -- A plan is feasible exactly where no rule is broken.
-use Rattle.std.proofs.Common.{◌≡◌, ℕ, ◌+◌, ◌<◌, ◌≤◌, ltb, Option, Some, None, length, refl, sym, subst, arith}
+use Rattle.std.proofs.Common.{◌≡◌, inl, inr, ◌⊎◌, ℕ, ◌+◌, ◌<◌, ◌≤◌, ltb, Option, Some, None, length, refl, sym, subst, arith}
 use Rattle.std.specs.Option.{IfNone, IfSome}
 use Rattle.std.proofs.lemmas.List.{get_or_default}
 use Rattle.std.proofs.lemmas.Bool.Decides.{nat_tests}
@@ -73,3 +73,11 @@ feasible_if_none n p (Some b) times first = tt
 pub infeasible_if_some : (n : Net) (p : Plan) (found : Option Break) → found ≡ first_break_of n p → IfSome found (λ b. ¬ Feasible n p)
 infeasible_if_some n p None first = tt
 infeasible_if_some n p (Some b) first = λ feasible. (let none = none_from_Feasible n p feasible in cc)
+
+-- a plan with its times is feasible or not
+by_first_break : (n : Net) (p : Plan) → HasTimes n p → (found : Option Break) → found ≡ first_break_of n p → Feasible n p ⊎ (¬ Feasible n p)
+by_first_break n p times None first = inl (Feasible_from_none n p times (sym first))
+by_first_break n p times (Some b) first = inr (λ feasible. (let none = none_from_Feasible n p feasible in cc))
+
+pub Feasible_or_not : (n : Net) (p : Plan) → HasTimes n p → Feasible n p ⊎ (¬ Feasible n p)
+Feasible_or_not n p times = by_first_break n p times (first_break_of n p) refl

@@ -1,5 +1,5 @@
 -- The first of several answers, and sums over numbers.
-use Rattle.std.proofs.Common.{◌≡◌, ℕ, zero, suc, ◌+◌, ◌-◌, ◌<◌, ◌≤◌, Option, Some, None, List, [], ◌∷◌, refl, arith, inl, inr, add-one, zero-add, suc-add, ◌∙◌}
+use Rattle.std.proofs.Common.{◌≡◌, ◌⊎◌, ℕ, zero, suc, ◌+◌, ◌-◌, ◌<◌, ◌≤◌, Option, Some, None, List, [], ◌∷◌, refl, arith, inl, inr, add-one, zero-add, suc-add, ◌∙◌}
 use Rattle.std.proofs.lemmas.Bool.{cases_lt}
 use Rattle.service_model.specs.Search.{or_else, first_of, first_below, sum_below}
 
@@ -11,6 +11,11 @@ or_else_first (Some x) b none = cc
 pub or_else_second : {A : Type 0} (a b : Option A) → or_else a b ≡ None → b ≡ None
 or_else_second None b none = none
 or_else_second (Some x) b none = cc
+
+-- an answer is the first's, or the second's where the first has none
+pub or_else_cases : {A : Type 0} (a b : Option A) (x : A) → or_else a b ≡ Some x → (a ≡ Some x) ⊎ ((a ≡ None) × (b ≡ Some x))
+or_else_cases None b x found = inr (refl, found)
+or_else_cases (Some y) b x found = inl found
 
 -- each answer of a list is none
 abbrev pub AllNone : {A : Type 0} → List (Option A) → Type 0
@@ -48,6 +53,15 @@ first_below_found f n k x before within here =
     let found : first_below f (k + 1) ≡ Some x = first_below_step f k before ∙ here in
     let far : n ≡ (n - (k + 1)) + (k + 1) = omega arith in
     rw far (first_below_stays f (n - (k + 1)) (k + 1) x found)
+
+-- where the first answer comes from
+pub first_below_at : {A : Type 0} (f : ℕ → Option A) (n : ℕ) (x : A) → first_below f n ≡ Some x → (k : ℕ) × (k < n) × (f k ≡ Some x) × (first_below f k ≡ None)
+first_below_at f zero x found = cc
+first_below_at f (suc n) x found =
+    elim (or_else_cases (first_below f n) (f n) x found) [
+      | inl before ↦ (let rest = first_below_at f n x before in (rest.0, omega (arith, rest.1), rest.2, rest.3))
+      | inr here ↦ (n, omega arith, here.1, here.0)
+    ]
 
 pub sum_below_more : (f : ℕ → ℕ) (n : ℕ) → sum_below f (n + 1) ≡ f n + sum_below f n
 sum_below_more f n = rw add-one refl
