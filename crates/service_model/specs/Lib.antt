@@ -4,6 +4,7 @@ pub mod Plans
 pub mod Breaks
 pub mod Walks
 pub mod Faults
+pub mod Ends
 pub mod Customers
 pub mod Orders
 pub mod Waits

@@ -1,6 +1,7 @@
 //! The model of a supply network: stages, arcs, plans, what a plan costs, and the rules on both.
 #![tactic(auto)]
 
+mod arc_rules;
 mod breaks;
 mod cycle;
 mod faults;
@@ -13,6 +14,9 @@ mod order;
 mod plan;
 mod ready;
 mod stage;
+mod stage_rules;
+#[cfg(test)]
+mod tests;
 #[cfg(test)]
 mod tests_orders;
 mod waits;

@@ -1,7 +1,8 @@
 // A network on which every rule holds.
 ghost use Rattle.std.specs.Prelude.{◌≡◌, ◌+◌, ◌-◌, ◌<◌, ◌≤◌, ◌^◌, List, length};
 
-use crate::{INF, List, NetworkFault, NewFault, Plan, Stage, SupplyArc};
+use crate::faults::fault_of;
+use crate::{List, MAX_PLAN_COST, NewFault, Plan, Stage, SupplyArc};
 use std::alloc::Global;
 use std::marker::Model;
 
@@ -41,7 +42,14 @@ impl Network {
         requires few_arcs { length arcs < 2 ^ 32 }
         ensures { MakesNetwork (net_of horizon stages arcs) result }
     {
-        Err(NewFault::NoMemory)
+        match fault_of(alloc, horizon, stages.as_slice(), arcs.as_slice())? {
+            Some(fault) => Err(NewFault::Rule(fault)),
+            None => Ok(Network {
+                horizon,
+                stages,
+                arcs,
+            }),
+        }
     }
 
     /// The horizon, in periods.
@@ -71,11 +79,20 @@ impl Network {
         requires { stage < length self.now.stages }
         ensures { result ≡ entry_of (stage_at self.now stage).cost time }
     {
-        let cost = &self.stages.get(stage as usize).cost;
-        if (time as usize) < cost.len() {
-            *cost.get(time as usize)
-        } else {
-            INF
+        self.stages.get(stage as usize).cost_at(time)
+    }
+
+    /// The cost of a feasible plan.
+    pub fn cost(&self, plan: &Plan) -> u64
+        requires { Feasible self.now plan.now }
+        ensures value { result ≡ cost_of self.now plan.now }
+        ensures small { result ≤ MAX_PLAN_COST }
+    {
+        let mut total: u64 = 0;
+        'stages: for j in 0..self.stages.len() {
+            let stage = self.stages.get(j);
+            total += stage.charge(*plan.inbound.get(j), *plan.outbound.get(j));
         }
+        total
     }
 }

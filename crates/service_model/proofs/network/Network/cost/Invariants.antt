@@ -1,0 +1,7 @@
+use Rattle.std.proofs.Common.{◌≡◌}
+use Rattle.service_model.specs.Plans.{stage_cost}
+use Rattle.service_model.specs.Search.{sum_below}
+use Rattle.service_model.proofs.network.Network.cost.Given as goal
+
+abbrev pub invariant-stages : goal.invariant-stages
+invariant-stages l = l.total ≡ sum_below (stage_cost l.self l.plan) l.j
