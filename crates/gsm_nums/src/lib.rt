@@ -1,0 +1,6 @@
+//! Whole numbers from bytes.
+#![tactic(auto)]
+
+mod whole;
+
+pub use whole::{NumFault, read_whole};

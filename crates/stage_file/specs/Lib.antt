@@ -1,0 +1,9 @@
+pub mod Rows
+pub mod Records
+pub mod Faults
+pub mod Fields
+pub mod Stages
+pub mod Tables
+pub mod Arcs
+pub mod PlanRecords
+pub mod Raw
