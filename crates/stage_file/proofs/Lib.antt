@@ -1,1 +1,5 @@
+pub mod FieldFacts
+pub mod ListFacts
+pub mod NameFacts
+pub mod RecordFacts
 mod RowFacts

@@ -1,5 +1,7 @@
 pub mod Rows
+pub mod Names
 pub mod Records
+pub mod Seen
 pub mod Faults
 pub mod Fields
 pub mod Stages

@@ -3,9 +3,14 @@
 
 mod arcs;
 mod fault;
+mod field;
+mod header;
 mod limits;
+mod names;
+mod place;
 mod plans;
 mod raw;
+mod record;
 mod rows;
 pub mod rules;
 mod stages;
@@ -16,6 +21,7 @@ pub use fault::{FileFault, FileKind, ReadFault};
 pub use limits::{
     MAX_ENTRIES, MAX_EXCESS, MAX_FACTOR, MAX_NAME, MAX_QUANTITY, MAX_TABLES, MAX_UNIT,
 };
+pub use names::Names;
 pub use plans::read_plan;
 pub use raw::{Files, RawNet, raw_net};
 pub use rows::{Row, Rows, Text, rows_of};
