@@ -1,5 +1,7 @@
+pub mod FaultFacts
 pub mod FieldFacts
 pub mod ListFacts
 pub mod NameFacts
 pub mod RecordFacts
 mod RowFacts
+pub mod TableFacts

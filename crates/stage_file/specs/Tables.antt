@@ -1,5 +1,5 @@
 -- The rules and the records of a table file.
-use Rattle.std.specs.Prelude.{◌≢◌, ℕ, ◌+◌, ◌<◌, ◌≤◌, ◌||◌, nat_lt, nat_le, List, [], ◌∷◌, length, take, drop, map, codes, All, AllPairs, Option}
+use Rattle.std.specs.Prelude.{◌≢◌, ℕ, ◌+◌, ◌<◌, ◌≤◌, ◌||◌, Bool, nat_lt, nat_le, List, [], ◌∷◌, ◌++◌, length, take, drop, map, codes, All, AllPairs, Option}
 use Rattle.std.specs.List.{list_any}
 use Rattle.std.specs.Str.{IsUtf8}
 use Rattle.service_model.specs.Search.{first_of, first_below}
@@ -17,18 +17,36 @@ use Rattle.stage_file.specs.Stages.{is_name_of}
 abbrev pub entries_in : Numbered → List (List ℕ)
 entries_in r = drop 1 r.fields
 
--- the rules on a table record in their order, given the records between the header and it
-abbrev pub table_rules : List Numbered → Numbered → List (Option FileFault)
-table_rules earlier r =
+-- the rules on the fields of a table record: they are text, not too few or too many, and the first may be a name
+abbrev pub table_field_rules : Numbered → List (Option FileFault)
+table_field_rules r =
     text_rule Tables r
     ∷ fails_if Tables r.number FIELD_COUNT 0 (nat_lt (length r.fields) 2 || nat_lt (MAX_ENTRIES + 1) (length r.fields))
     ∷ fails_if Tables r.number NAME 1 (is_bad_name (field_in r.fields 1))
-    ∷ fails_from Tables r.number NUMBER 2 (is_no_number MAX_EXCESS) (entries_in r)
+    ∷ []
+
+-- an entry gives no number
+abbrev pub fails_as_entry : List ℕ → Bool
+fails_as_entry field = is_no_number MAX_EXCESS field || is_past MAX_EXCESS field
+
+-- the rules on its entries
+abbrev pub entry_rules : Numbered → List (Option FileFault)
+entry_rules r =
+    fails_from Tables r.number NUMBER 2 (is_no_number MAX_EXCESS) (entries_in r)
     ∷ fails_from Tables r.number RANGE 2 (is_past MAX_EXCESS) (entries_in r)
-    ∷ fails_if Tables r.number TOO_MANY 0 (nat_le MAX_TABLES (length earlier))
+    ∷ []
+
+-- the rules on its place among the tables, given the records between the header and it
+abbrev pub table_place_rules : List Numbered → Numbered → List (Option FileFault)
+table_place_rules earlier r =
+    fails_if Tables r.number TOO_MANY 0 (nat_le MAX_TABLES (length earlier))
     ∷ fails_if Tables r.number TWICE 1 (list_any (is_name_of (field_in r.fields 1)) earlier)
     ∷ fails_if Tables r.number TABLE_NAME 1 (is_kept_name (field_in r.fields 1))
     ∷ []
+
+-- the rules on a table record in their order, given the records between the header and it
+abbrev pub table_rules : List Numbered → Numbered → List (Option FileFault)
+table_rules earlier r = table_field_rules r ++ entry_rules r ++ table_place_rules earlier r
 
 -- the first rule that fails on record k behind the header
 abbrev pub table_fault_at : List Numbered → ℕ → Option FileFault

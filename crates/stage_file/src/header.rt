@@ -4,7 +4,7 @@ ghost use Rattle.std.specs.Char.{to_ascii_lowercase};
 ghost use Rattle.std.specs.Str.{str_to_ascii_lowercase, bytes_eq};
 ghost use Rattle.service_model.specs.Search.{first_of};
 ghost use Rattle.stage_file.specs.Faults.{header_rules, header_fault};
-ghost use Rattle.stage_file.specs.Seen.{seen_as, all_seen};
+ghost use Rattle.stage_file.specs.Seen.{seen_as, all_seen, AreShort};
 
 use crate::place::{fails_if, text_fault};
 use crate::record::{Record, field_in};
@@ -14,7 +14,7 @@ use crate::{FileFault, FileKind};
 /// The first rule that fails on the header, where there is one. The word is in lower case.
 pub fn header_fault(file: FileKind, word: &[u8], records: &[Record<'_>]) -> Option<FileFault>
     requires lower { str_to_ascii_lowercase word.now ≡ word.now }
-    requires short { All (λ r. length r.fields.now < 2 ^ 32 - 1) records.now }
+    requires short { AreShort records.now }
     ensures { result ≡ header_fault file word.now (all_seen records.now) }
 {
     match records {

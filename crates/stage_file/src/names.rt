@@ -1,5 +1,6 @@
 // Names with their places.
-ghost use Rattle.std.specs.Prelude.{◌≡◌, ◌<◌, ◌++◌, ◌∷◌, [], length, position, OnOk, OnErr, IfSome};
+ghost use Rattle.std.specs.Prelude.{◌≡◌, ◌<◌, ◌++◌, ◌∷◌, [], false, length, position, OnOk, OnErr, IfSome};
+ghost use Rattle.std.specs.List.{list_any};
 ghost use Rattle.std.specs.Str.{bytes_eq};
 ghost use Rattle.stage_file.specs.Names.{AreDistinct};
 
@@ -55,9 +56,15 @@ impl Names {
         self.names.get_index_of(name)
     }
 
+    pub fn has(&self, name: &[u8]) -> bool
+        ensures { result ≡ list_any (bytes_eq name.now) self.now }
+    {
+        self.names.contains(name)
+    }
+
     /// Puts a new name at the end.
     pub fn push(&mut self, name: &[u8]) -> Result<(), NoMemory>
-        requires { position (bytes_eq name.now) self.old ≡ None }
+        requires { list_any (bytes_eq name.now) self.old ≡ false }
         ensures ok { OnOk result (self.new ≡ self.old ++ name.now ∷ []) }
         ensures err { OnErr result (self.new ≡ self.old) }
     {

@@ -1,7 +1,7 @@
 // The records of rows.
 ghost use Rattle.std.specs.Prelude.{◌≡◌, ◌<◌, ◌-◌, ◌^◌, ◌++◌, length, IfOk, OnOk, All};
 ghost use Rattle.stage_file.specs.Records.{AreCountable, records_of, kept_at, below_header, field_in};
-ghost use Rattle.stage_file.specs.Seen.{all_seen};
+ghost use Rattle.stage_file.specs.Seen.{all_seen, AreShort};
 
 use crate::rows::kept_len;
 use crate::{Rows, Text};
@@ -21,7 +21,7 @@ pub fn records_of<'a>(alloc: Global, rows: &'a Rows) -> Result<Vec<Record<'a>>, 
     requires { AreCountable rows.now }
     ensures value { IfOk result (λ records. all_seen records.items ≡ records_of rows.now) }
     ensures some { IfOk result (λ records. All (λ r. 0 < length r.fields.now) records.items) }
-    ensures short { IfOk result (λ records. All (λ r. length r.fields.now < 2 ^ 32 - 1) records.items) }
+    ensures short { IfOk result (λ records. AreShort records.items) }
 {
     let mut records = Vec::new(alloc);
     'rows: for k in 0..rows.len() {
@@ -36,7 +36,7 @@ fn keep<'a>(records: &mut Vec<Record<'a>>, number: u32, row: &'a [Text]) -> Resu
     requires { length row.now < 2 ^ 32 - 1 }
     ensures value { OnOk result (all_seen records.new.items ≡ all_seen records.old.items ++ kept_at number row.now) }
     ensures some { OnOk result (All (λ r. 0 < length r.fields.now) records.old.items → All (λ r. 0 < length r.fields.now) records.new.items) }
-    ensures short { OnOk result (All (λ r. length r.fields.now < 2 ^ 32 - 1) records.old.items → All (λ r. length r.fields.now < 2 ^ 32 - 1) records.new.items) }
+    ensures short { OnOk result (AreShort records.old.items → AreShort records.new.items) }
 {
     let fields = &row[..kept_len(row)];
     if !fields.is_empty() {
@@ -47,7 +47,8 @@ fn keep<'a>(records: &mut Vec<Record<'a>>, number: u32, row: &'a [Text]) -> Resu
 
 /// The records behind the header.
 pub fn below_header<'a>(records: &'a [Record<'a>]) -> &'a [Record<'a>]
-    ensures { all_seen result.now ≡ below_header (all_seen records.now) }
+    ensures value { all_seen result.now ≡ below_header (all_seen records.now) }
+    ensures short { AreShort records.now → AreShort result.now }
 {
     match records {
         [] => records,
