@@ -1,5 +1,5 @@
 -- The first rule of several, and of records in their order.
-use Rattle.std.proofs.Common.{◌≡◌, ℕ, zero, suc, ◌+◌, ◌-◌, ◌<◌, Option, Some, None, List, [], ◌∷◌, ◌++◌, Result, Ok, Err, refl, arith, inl, inr, add-one, zero-add, suc-add, ◌∙◌}
+use Rattle.std.proofs.Common.{◌≡◌, ℕ, zero, suc, ◌+◌, ◌-◌, ◌<◌, Option, Some, None, List, [], ◌∷◌, ◌++◌, Err, refl, arith, inl, inr, add-one, zero-add, suc-add, ◌∙◌}
 use Rattle.std.proofs.lemmas.Bool.{cases_lt}
 use Rattle.service_model.specs.Search.{or_else, first_of, first_below}
 use Rattle.stage_file.specs.declared.fault.FileFault.{FileFault}

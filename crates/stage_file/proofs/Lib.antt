@@ -1,7 +1,9 @@
 pub mod FaultFacts
 pub mod FieldFacts
+pub mod LimitFacts
 pub mod ListFacts
 pub mod NameFacts
 pub mod RecordFacts
 mod RowFacts
 pub mod TableFacts
+pub mod TableLimits

@@ -4,12 +4,11 @@ use Rattle.std.proofs.lemmas.List.{take-map}
 use Rattle.std.specs.List.{list_any}
 use Rattle.service_model.specs.Search.{first_of}
 use Rattle.stage_file.specs.declared.fault.FileFault.{FileFault}
-use Rattle.stage_file.specs.declared.fault.FileKind.{FileKind}
 use Rattle.stage_file.specs.declared.fault.FileKind.TheVariants.{Tables}
 use Rattle.stage_file.specs.declared.limits.TheConstants.{MAX_EXCESS}
 use Rattle.stage_file.specs.declared.rules.TheConstants.{NUMBER, RANGE, TWICE}
 use Rattle.stage_file.specs.Fields.{is_no_number, is_past}
-use Rattle.stage_file.specs.Faults.{fault_of, fails_if, fails_from}
+use Rattle.stage_file.specs.Faults.{fault_of, fails_from}
 use Rattle.stage_file.specs.Names.{name_in}
 use Rattle.stage_file.specs.Records.{Numbered}
 use Rattle.stage_file.specs.Stages.{is_name_of}
@@ -18,6 +17,7 @@ use Rattle.stage_file.specs.Seen.{seen_as, all_seen}
 use Rattle.stage_file.specs.declared.record.Record.{Record}
 use Rattle.stage_file.proofs.FaultFacts.{first_of_none}
 use Rattle.stage_file.proofs.RecordFacts.{record_read}
+use Rattle.stage_file.proofs.LimitFacts.{passes}
 use Rattle.stage_file.proofs.ListFacts.{all_fail, first_place, no_place}
 
 -- the rules on fields that are entries
@@ -45,11 +45,6 @@ range_first row fields place none within before fails =
 pub entries_pass : (row : ℕ) (fields : List (List ℕ)) → All (λ f. is_no_number MAX_EXCESS f ≡ false) fields → All (λ f. is_past MAX_EXCESS f ≡ false) fields → first_of (on_entries row fields) ≡ None
 unfolding fails_from
 entries_pass row fields numbers within = rw (no_place (is_no_number MAX_EXCESS) fields [] numbers, no_place (is_past MAX_EXCESS) fields [] within) refl
-
-pub passes : (file : FileKind) (row rule column : ℕ) (fails : Bool) → fails_if file row rule column fails ≡ None → fails ≡ false
-unfolding fails_if
-passes file row rule column true none = cc
-passes file row rule column false none = refl
 
 -- where the rules on its place hold, its name is new
 pub holds_place : (earlier : List Numbered) (r : Numbered) → first_of (table_place_rules earlier r) ≡ None → list_any (is_name_of (name_in r)) earlier ≡ false

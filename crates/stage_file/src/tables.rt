@@ -31,12 +31,13 @@ pub struct TableRow {
 }
 
 /// The tables of a table file, or its first failing rule.
+#[tactic(auto, using(crate::proofs::TableLimits::read_within))]
 pub fn read_tables(alloc: Global, rows: &Rows) -> Result<List<TableRow>, ReadFault>
     requires { AreCountable rows.now }
     ensures value { Reads (table_file_fault rows.now) (table_rows_of rows.now) result }
     ensures within { IfOk result AreTableRows }
 {
-    Err(ReadFault::NoMemory)
+    tables_in(alloc, rows)
 }
 
 fn tables_in(alloc: Global, rows: &Rows) -> Result<List<TableRow>, ReadFault>
@@ -98,7 +99,13 @@ fn field_fault(record: &Record<'_>) -> Option<FileFault>
     let count = record.fields.len();
     let name = field_in(record.fields, 1);
     text_fault(FileKind::Tables, record)
-        .or_else(|| fails_if(FileKind::Tables, number, FIELD_COUNT, 0, count < 2 || count > MAX_ENTRIES + 1))
+        .or_else(|| fails_if(
+            FileKind::Tables,
+            number,
+            FIELD_COUNT,
+            0,
+            count < 2 || count > MAX_ENTRIES + 1,
+        ))
         .or_else(|| fails_if(FileKind::Tables, number, NAME, 1, is_bad_name(name)))
 }
 

@@ -1,4 +1,4 @@
-use Rattle.std.proofs.Common.{◌≡◌, ◌+◌, ◌-◌, ◌^◌, ◌<◌, ◌++◌, length, drop, All}
+use Rattle.std.proofs.Common.{◌≡◌, ◌+◌, ◌<◌, ◌++◌, length, drop, All}
 use Rattle.stage_file.specs.Records.{numbered}
 use Rattle.stage_file.specs.Seen.{all_seen, AreShort}
 use Rattle.stage_file.proofs.record.records_of.Given as goal

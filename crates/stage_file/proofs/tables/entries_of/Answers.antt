@@ -1,10 +1,8 @@
-use Rattle.std.proofs.Common.{◌≡◌, ◌+◌, ◌∷◌, ◌++◌, ◌<◌, [], false, map, take, length, get_or, All, refl, sym, ◌∙◌, arith}
+use Rattle.std.proofs.Common.{◌≡◌, ◌<◌, [], false, take, length, get_or, All, refl, sym, ◌∙◌, arith}
 use Rattle.std.proofs.lemmas.List.{take_all, map_more, get_or_read}
 use Rattle.std.proofs.lemmas.List.Elements.{All-more}
 use Rattle.stage_file.specs.declared.limits.TheConstants.{MAX_EXCESS}
 use Rattle.stage_file.specs.Fields.{is_no_number, is_past, number_or}
-use Rattle.stage_file.specs.Seen.{seen_as}
-use Rattle.stage_file.specs.Tables.{entries_in}
 use Rattle.stage_file.proofs.TableFacts.{entries_pass}
 use Rattle.stage_file.proofs.tables.entries_of.Goals as goal
 

@@ -1,4 +1,4 @@
-use Rattle.std.proofs.Common.{◌≡◌, false, map, take, drop, All}
+use Rattle.std.proofs.Common.{◌≡◌, false, map, take, All}
 use Rattle.stage_file.specs.declared.limits.TheConstants.{MAX_EXCESS}
 use Rattle.stage_file.specs.Fields.{is_no_number, is_past, number_or}
 use Rattle.stage_file.proofs.tables.entries_of.Given as goal

@@ -1,8 +1,8 @@
-use Rattle.std.proofs.Common.{rules, ◌∙◌, ap, sym, Some, ◌≡◌, ◌<◌, true, slice_index_or, [], take, length, position, All, false}
-use Rattle.stage_file.specs.Tables.{entries_in, fails_as_entry}
+use Rattle.std.proofs.Common.{Some, ◌≡◌, position}
+use Rattle.stage_file.specs.Tables.{entries_in}
 use Rattle.stage_file.specs.Seen.{seen_as}
 use Rattle.stage_file.specs.declared.limits.TheConstants.{MAX_EXCESS}
-use Rattle.stage_file.specs.Fields.{is_no_number, is_past}
+use Rattle.stage_file.specs.Fields.{is_no_number}
 use Rattle.stage_file.proofs.TableFacts.{number_first, range_first}
 use Rattle.stage_file.proofs.tables.entry_fault.Goals as goal
 

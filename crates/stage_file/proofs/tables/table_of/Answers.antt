@@ -1,11 +1,8 @@
-use Rattle.std.proofs.Common.{◌≡◌, ◌∷◌, ◌++◌, [], None, refl, sym, ◌∙◌}
-use Rattle.std.specs.List.{list_any}
-use Rattle.service_model.specs.Search.{first_of}
+use Rattle.std.proofs.Common.{◌++◌, refl, sym, ◌∙◌}
 use Rattle.stage_file.specs.Names.{name_in}
 use Rattle.stage_file.specs.Seen.{seen_as, all_seen}
-use Rattle.stage_file.specs.Stages.{is_name_of}
-use Rattle.stage_file.specs.Tables.{table_field_rules, entry_rules, table_place_rules, table_rules, table_row_of}
-use Rattle.stage_file.proofs.FaultFacts.{found_behind, first_of_none}
+use Rattle.stage_file.specs.Tables.{table_field_rules, entry_rules, table_place_rules, table_row_of}
+use Rattle.stage_file.proofs.FaultFacts.{found_behind}
 use Rattle.stage_file.proofs.NameFacts.{taken_seen}
 use Rattle.stage_file.proofs.TableFacts.{holds_place}
 use Rattle.stage_file.proofs.tables.table_of.Goals as goal

@@ -1,7 +1,7 @@
-use Rattle.std.proofs.Common.{◌≡◌, ◌<◌, None, length, take, map, refl, ◌∙◌, arith}
+use Rattle.std.proofs.Common.{◌≡◌, ◌<◌, length, take, map, refl, ◌∙◌, arith}
 use Rattle.std.proofs.lemmas.List.{length-map, take_all}
 use Rattle.std.proofs.lemmas.Result.{err_from_is_err_and}
-use Rattle.service_model.specs.Search.{first_below, first_of}
+use Rattle.service_model.specs.Search.{first_of}
 use Rattle.stage_file.specs.Names.{name_in}
 use Rattle.stage_file.specs.Seen.{seen_as, all_seen}
 use Rattle.stage_file.specs.Tables.{table_fault_at, table_row_of, table_rules}
@@ -22,7 +22,7 @@ returns-in_err-table_of c =
     let here : table_fault_at (all_seen records) c.records.k ≡ rules = table_here records c.records.k r c.records-test.true c.index-records-k.is in
     let within : c.records.k < length (all_seen records) = rw length-map c.records-test.true in
     rw (p.1, p.2) (
-      stops_below (table_fault_at (all_seen records)) (length (all_seen records)) c.records.k rules (table_row_of (seen_as r)) (map table_row_of (all_seen records)) c.in_err-table_of.field-0.0 c.records.invariant.faults within here c.in_err-table_of.ensures.value
+    stops_below (table_fault_at (all_seen records)) (length (all_seen records)) c.records.k rules (table_row_of (seen_as r)) (map table_row_of (all_seen records)) c.in_err-table_of.field-0.0 c.records.invariant.faults within here c.in_err-table_of.ensures.value
     )
 
 pub records-preserved : goal.records-preserved
