@@ -1,3 +1,6 @@
+pub mod ArcFacts
+pub mod ArcLimits
+pub mod EndFacts
 pub mod FaultFacts
 pub mod FieldFacts
 pub mod LimitFacts

@@ -1,5 +1,5 @@
 -- The rules and the records of an arc file.
-use Rattle.std.specs.Prelude.{◌≡◌, ◌≢◌, ℕ, ◌<◌, ◌≤◌, ◌||◌, ◌&&◌, Bool, nat_lt, nat_le, List, [], ◌∷◌, length, take, map, codes, All, AllPairs, Option, unwrap_or, position, is_none}
+use Rattle.std.specs.Prelude.{◌≡◌, ◌≢◌, ℕ, ◌<◌, ◌≤◌, ◌||◌, ◌&&◌, Bool, nat_lt, nat_le, List, [], ◌∷◌, ◌++◌, length, take, map, codes, All, AllPairs, Option, unwrap_or, position, is_none}
 use Rattle.std.specs.List.{list_any}
 use Rattle.std.specs.Str.{bytes_eq}
 use Rattle.service_model.specs.declared.limits.TheConstants.{MAX_ARCS}
@@ -22,23 +22,36 @@ names_of stages = map (λ s. s.name) stages
 abbrev pub place_of : List (List ℕ) → List ℕ → Option ℕ
 place_of names name = position (bytes_eq name) names
 
+-- no stage has the name
+unfoldable pub is_no_stage : List (List ℕ) → List ℕ → Bool
+is_no_stage names name = is_none (place_of names name)
+
 -- two arc records have the same supplier and customer
 unfoldable pub has_ends : List (List ℕ) → Numbered → Bool
 has_ends fields r = bytes_eq (field_in fields 1) (field_in r.fields 1) && bytes_eq (field_in fields 2) (field_in r.fields 2)
 
--- the rules on an arc record in their order, given the stages' names and the records between the header and it
-abbrev pub arc_rules : List (List ℕ) → List Numbered → Numbered → List (Option FileFault)
-arc_rules names earlier r =
+-- the rules on the fields of an arc record: they are text, not too few or too many, and the third may be a quantity
+abbrev pub arc_field_rules : Numbered → List (Option FileFault)
+arc_field_rules r =
     text_rule Arcs r
     ∷ fails_if Arcs r.number FIELD_COUNT 0 (nat_lt (length r.fields) 2 || nat_lt 3 (length r.fields))
     ∷ fails_if Arcs r.number NUMBER 3 (is_misread MAX_QUANTITY (field_in r.fields 3))
     ∷ fails_if Arcs r.number RANGE 3 (is_past MAX_QUANTITY (field_in r.fields 3))
-    ∷ fails_if Arcs r.number TOO_MANY 0 (nat_le MAX_ARCS (length earlier))
-    ∷ fails_if Arcs r.number SUPPLIER 1 (is_none (place_of names (field_in r.fields 1)))
-    ∷ fails_if Arcs r.number CUSTOMER 2 (is_none (place_of names (field_in r.fields 2)))
+    ∷ []
+
+-- the rules on its ends and its place among the arcs, given the stages' names and the records between the header and it
+abbrev pub arc_end_rules : List (List ℕ) → List Numbered → Numbered → List (Option FileFault)
+arc_end_rules names earlier r =
+    fails_if Arcs r.number TOO_MANY 0 (nat_le MAX_ARCS (length earlier))
+    ∷ fails_if Arcs r.number SUPPLIER 1 (is_no_stage names (field_in r.fields 1))
+    ∷ fails_if Arcs r.number CUSTOMER 2 (is_no_stage names (field_in r.fields 2))
     ∷ fails_if Arcs r.number SELF_ARC 2 (bytes_eq (field_in r.fields 1) (field_in r.fields 2))
     ∷ fails_if Arcs r.number ARC_TWICE 2 (list_any (has_ends r.fields) earlier)
     ∷ []
+
+-- the rules on an arc record in their order
+abbrev pub arc_rules : List (List ℕ) → List Numbered → Numbered → List (Option FileFault)
+arc_rules names earlier r = arc_field_rules r ++ arc_end_rules names earlier r
 
 -- the first rule that fails on record k behind the header
 abbrev pub arc_fault_at : List (List ℕ) → List Numbered → ℕ → Option FileFault

@@ -7,5 +7,6 @@ pub mod Fields
 pub mod Stages
 pub mod Tables
 pub mod Arcs
+pub mod Ends
 pub mod PlanRecords
 pub mod Raw

@@ -1,5 +1,5 @@
 -- The rules and the records of a plan file.
-use Rattle.std.specs.Prelude.{ℕ, ◌||◌, Bool, not, nat_lt, List, [], ◌∷◌, length, take, map, codes, Option, is_none}
+use Rattle.std.specs.Prelude.{ℕ, ◌||◌, Bool, not, nat_lt, List, [], ◌∷◌, length, take, map, codes, Option}
 use Rattle.std.specs.List.{list_any}
 use Rattle.std.specs.List.{position_or_len}
 use Rattle.service_model.specs.declared.limits.TheConstants.{MAX_TIME}
@@ -12,7 +12,7 @@ use Rattle.stage_file.specs.Records.{Numbered, records_of, below_header, record_
 use Rattle.stage_file.specs.Fields.{is_no_number, is_past, number_or}
 use Rattle.stage_file.specs.Faults.{fails_if, text_rule, header_fault}
 use Rattle.stage_file.specs.Stages.{is_name_of}
-use Rattle.stage_file.specs.Arcs.{place_of}
+use Rattle.stage_file.specs.Arcs.{is_no_stage}
 
 -- the rules on a plan record in their order, given the stages' names and the records between the header and it
 abbrev pub plan_rules : List (List ℕ) → List Numbered → Numbered → List (Option FileFault)
@@ -24,7 +24,7 @@ plan_rules names earlier r =
     ∷ fails_if kind.Plan r.number RANGE 2 (is_past MAX_TIME (field_in r.fields 2))
     ∷ fails_if kind.Plan r.number RANGE 3 (is_past MAX_TIME (field_in r.fields 3))
     ∷ fails_if kind.Plan r.number PLAN_STAGE 1
-    (is_none (place_of names (field_in r.fields 1)) || list_any (is_name_of (field_in r.fields 1)) earlier)
+    (is_no_stage names (field_in r.fields 1) || list_any (is_name_of (field_in r.fields 1)) earlier)
     ∷ []
 
 -- the first rule that fails on record k behind the header

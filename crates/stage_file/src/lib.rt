@@ -2,6 +2,7 @@
 #![tactic(auto)]
 
 mod arcs;
+mod ends;
 mod fault;
 mod field;
 mod header;
