@@ -1,0 +1,12 @@
+pub mod ArcFacts
+pub mod ArcLimits
+pub mod EndFacts
+pub mod FaultFacts
+pub mod FieldFacts
+pub mod LimitFacts
+pub mod ListFacts
+pub mod NameFacts
+pub mod RecordFacts
+mod RowFacts
+pub mod TableFacts
+pub mod TableLimits

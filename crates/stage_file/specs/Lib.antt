@@ -1,0 +1,12 @@
+pub mod Rows
+pub mod Names
+pub mod Records
+pub mod Seen
+pub mod Faults
+pub mod Fields
+pub mod Stages
+pub mod Tables
+pub mod Arcs
+pub mod Ends
+pub mod PlanRecords
+pub mod Raw

@@ -1,0 +1,14 @@
+-- Records as the code holds them.
+use Rattle.std.specs.Prelude.{◌-◌, ◌<◌, ◌^◌, List, length, map, All}
+use Rattle.stage_file.specs.Records.{Numbered}
+use Rattle.stage_file.specs.declared.record.Record.{Record}
+
+abbrev pub seen_as : Record → Numbered
+seen_as r = record { number = r.number; fields = r.fields.now }
+
+abbrev pub all_seen : List Record → List Numbered
+all_seen records = map seen_as records
+
+-- the columns of each record can be numbered
+abbrev pub AreShort : List Record → Type 0
+AreShort records = All (λ r. length r.fields.now < 2 ^ 32 - 1) records
