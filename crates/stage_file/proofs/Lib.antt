@@ -8,5 +8,7 @@ pub mod ListFacts
 pub mod NameFacts
 pub mod RecordFacts
 mod RowFacts
+pub mod StageFacts
+pub mod StageLimits
 pub mod TableFacts
 pub mod TableLimits
