@@ -16,3 +16,10 @@ pub use real::{FileShelf, StdSink};
 pub use shelf::Shelf;
 pub use sink::Sink;
 pub use sure::{SureShelf, SureSink};
+
+#[cfg(test)]
+mod fakes;
+#[cfg(test)]
+mod tests;
+#[cfg(test)]
+mod tests_failed;
