@@ -1,16 +1,17 @@
-pub mod SearchFacts
-pub mod TopFacts
-pub mod FaultFacts
-mod EntryFacts
-mod EndFacts
-pub mod NetworkFacts
-pub mod CostFacts
-pub mod PlanFacts
-mod TakenFacts
 mod CustomerFacts
-mod WaitFacts
-mod FrontFacts
 mod CycleFacts
+mod EndFacts
+mod EntryFacts
+mod FrontFacts
 mod MarkFacts
 mod SearchedFacts
+mod TakenFacts
+mod WaitFacts
+pub mod CostFacts
+pub mod FaultFacts
+pub mod NetworkFacts
 pub mod OrderLaws
+pub mod PlanFacts
+pub mod SearchFacts
+pub mod TopFacts
+pub mod ValidFacts

@@ -1,6 +1,7 @@
 -- Which plans a network allows, and what they cost.
 use Rattle.std.specs.Prelude.{◌≡◌, ℕ, ◌<◌, ◌≤◌, ◌+◌, ◌-◌, List, length, slice_index, slice_index_or, nat_le, All, if◌then◌else◌}
 use Rattle.service_model.specs.declared.limits.TheConstants.{INF}
+use Rattle.service_model.specs.declared.stage.Stage.{Stage}
 use Rattle.service_model.specs.declared.stage.SupplyArc.{SupplyArc}
 use Rattle.service_model.specs.declared.plan.Plan.{Plan}
 use Rattle.service_model.specs.Net.{Net, stage_at}
@@ -34,13 +35,16 @@ pub record HasTimes (n : Net) (p : Plan) : Type 0 where
   pub inbound : length p.inbound ≡ length n.stages
   pub outbound : length p.outbound ≡ length n.stages
 
--- the times of stage j are within its limits, and its net replenishment time is allowed
-pub record FitsStage (n : Net) (p : Plan) (j : ℕ) : Type 0 where
-  pub supplied : (stage_at n j).supply ≤ inbound_at p j
-  pub within : inbound_at p j ≤ n.horizon
-  pub not_early : (stage_at n j).least ≤ outbound_at p j
-  pub not_late : outbound_at p j ≤ (stage_at n j).most
-  pub allowed : stage_cost n p j < INF
+-- a stage's two times are within its limits under a horizon, and its net replenishment time is allowed
+pub record FitsTimes (horizon : ℕ) (s : Stage) (inbound outbound : ℕ) : Type 0 where
+  pub supplied : s.supply ≤ inbound
+  pub within : inbound ≤ horizon
+  pub not_early : s.least ≤ outbound
+  pub not_late : outbound ≤ s.most
+  pub allowed : charge s.lead s.cost inbound outbound < INF
+
+abbrev pub FitsStage : Net → Plan → ℕ → Type 0
+FitsStage n p j = FitsTimes n.horizon (stage_at n j) (inbound_at p j) (outbound_at p j)
 
 -- the customer waits for the supplier's outbound time and the transit
 abbrev pub Meets : Plan → SupplyArc → Type 0

@@ -1,0 +1,12 @@
+pub mod CheckedFacts
+pub mod ChoiceFacts
+pub mod ExcessFacts
+pub mod LeastFacts
+pub mod PlainFacts
+pub mod ProblemFacts
+pub mod ReadFacts
+pub mod ReportFacts
+pub mod RequestFacts
+pub mod SourceFacts
+pub mod TableNames
+pub mod HeadlineFacts

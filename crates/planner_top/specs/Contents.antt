@@ -1,0 +1,57 @@
+-- The bytes of the three files of a request.
+use Rattle.std.specs.Prelude.{◌≡◌, ◌≤◌, ℕ, nat_lt, List, [], ◌∷◌, length, Option, Some, None, Result, Ok, Err, IfSome, if◌then◌else◌}
+use Rattle.service_model.specs.Search.{first_of}
+use Rattle.gsm_outside.specs.Held.{Held, file_bytes}
+use Rattle.gsm_outside.specs.Causes.{Rose}
+use Rattle.planner_top.specs.Asked.{Asked}
+use Rattle.planner_top.specs.declared.files.TheConstants.{FILE_LIMIT}
+use Rattle.planner_top.specs.declared.contents.Contents.{Contents}
+use Rattle.planner_top.specs.declared.stop.FileWord.{FileWord}
+use Rattle.planner_top.specs.declared.stop.FileWord.TheVariants as file
+use Rattle.planner_top.specs.declared.stop.ReadStop.{ReadStop}
+use Rattle.planner_top.specs.declared.stop.ReadStop.TheVariants as read
+use Rattle.planner_top.specs.declared.stop.Stop.{Stop}
+use Rattle.planner_top.specs.declared.stop.Stop.TheVariants as stop
+use Rattle.planner_top.specs.declared.stop.Unsolved.{Unsolved}
+use Rattle.planner_top.specs.declared.stop.Unsolved.TheVariants as unsolved
+
+abbrev pub long_if : FileWord → List ℕ → Option FileWord
+long_if word bytes = if nat_lt FILE_LIMIT (length bytes) then Some word else None
+
+-- the first file of a request that is longer than its limit
+abbrev pub too_long_of : Asked → Held → Option FileWord
+too_long_of q held =
+    first_of (
+    long_if file.Stages (file_bytes held q.stages)
+    ∷ long_if file.Tables (file_bytes held q.tables)
+    ∷ long_if file.Arcs (file_bytes held q.arcs)
+    ∷ []
+    )
+
+-- the bytes of the files of a request
+abbrev pub contents_of : Asked → Held → Contents
+contents_of q held = record {
+  stages = file_bytes held q.stages;
+  tables = file_bytes held q.tables;
+  arcs = file_bytes held q.arcs;
+}
+
+-- no file is longer than its limit
+pub record AreShort (c : Contents) : Type 0 where
+  pub stages : length c.stages ≤ FILE_LIMIT
+  pub tables : length c.tables ≤ FILE_LIMIT
+  pub arcs : length c.arcs ≤ FILE_LIMIT
+
+-- why there is nothing to solve, where one file was not read
+abbrev pub unread_of : FileWord → ReadStop → Unsolved
+unread_of word read.Fault = unsolved.Fault word
+unread_of word read.TooLong = unsolved.Stop (stop.TooLong word)
+unread_of word read.NoMemory = unsolved.NoMemory
+
+-- what reading the files of a request gives, with the count of failed reads before and after it
+abbrev pub FilesCase : Asked → Option Held → ℕ → ℕ → Result Contents Unsolved → Type 0
+FilesCase q held before now (Ok c) = (now ≡ before) × AreShort c × IfSome held (λ m. (too_long_of q m ≡ None) × (c ≡ contents_of q m))
+FilesCase q held before now (Err (unsolved.Stop (stop.TooLong word))) = (now ≡ before) × IfSome held (λ m. too_long_of q m ≡ Some word)
+FilesCase q held before now (Err (unsolved.Stop _)) = ⊥
+FilesCase q held before now (Err (unsolved.Fault word)) = (before ≤ now) × Rose before now
+FilesCase q held before now (Err unsolved.NoMemory) = before ≤ now

@@ -1,0 +1,46 @@
+-- The promise of the top call.
+use Rattle.std.specs.Prelude.{◌≡◌, ◌≢◌, ◌≤◌, ◌↔◌, ℕ, List, Option, Some, None, Result, Ok, Err}
+use Rattle.gsm_outside.specs.Held.{Held}
+use Rattle.gsm_outside.specs.Causes.{Rose}
+use Rattle.service_model.specs.declared.plan.Plan.{Plan}
+use Rattle.service_model.specs.Plans.{Least, Empty}
+use Rattle.planner_top.specs.Asked.{asked_of}
+use Rattle.planner_top.specs.Answers.{problem_of}
+use Rattle.planner_top.specs.Runs.{Run, Answered, FailedRead, PartPrinted, status_of}
+use Rattle.planner_top.specs.declared.checked.Checked.{Checked}
+use Rattle.planner_top.specs.declared.stop.FileWord.{FileWord}
+use Rattle.planner_top.specs.declared.stop.Stop.{Stop}
+use Rattle.planner_top.specs.declared.stop.Stop.TheVariants as stop
+use Rattle.planner_top.specs.declared.answer.Ending.{Ending}
+use Rattle.planner_top.specs.declared.answer.Ending.TheVariants as ending
+use Rattle.planner_top.specs.declared.status.Status.TheVariants as status
+
+-- which ending comes exactly where, for the network that words and files ask to solve, or their refusal
+pub record Exactly (problem : Result Checked Stop) (e : Ending) : Type 0 where
+  pub words : (e ≡ ending.Words) ↔ (problem ≡ Err stop.Words)
+  pub too_long : (e ≡ ending.TooLong) ↔ ((word : FileWord) × (problem ≡ Err (stop.TooLong word)))
+  pub refused : (e ≡ ending.Refused) ↔ (problem ≡ Err stop.Refused)
+  pub infeasible : (e ≡ ending.Infeasible) ↔ ((c : Checked) × (problem ≡ Ok c) × Empty c.network)
+  pub done : (e ≡ ending.Done) ↔ ((c : Checked) × (plan : Plan) × (problem ≡ Ok c) × Least c.network plan)
+
+-- no call on the outside failed, and memory sufficed
+pub record IsSure (r : Run) : Type 0 where
+  pub reads : ¬ Rose r.reads r.reads_after
+  pub writes : ¬ Rose r.faults r.faults_after
+  pub memory : r.status ≢ status.NoMemory
+
+pub record Headline (r : Run) : Type 0 where
+  -- whatever the status, the shelf holds what it held, no write to it failed, and no count falls
+  pub shelf : r.held_after ≡ r.held
+  pub writes : r.writes_after ≡ r.writes
+  pub later : (r.reads ≤ r.reads_after) × (r.faults ≤ r.faults_after)
+  -- where no call failed and memory sufficed there is an answer
+  pub complete : IsSure r → (e : Ending) × (r.status ≡ status_of e)
+  -- an answer is true of the words and files, its lines follow what was written, and no call failed
+  pub answer : (e : Ending) → r.status ≡ status_of e → Answered r e
+  -- and it comes exactly where its cause is, on a shelf that tells what it holds
+  pub exact : (e : Ending) (m : Held) → r.status ≡ status_of e → r.held ≡ Some m → Exactly (problem_of r.words m) e
+  -- a read fault comes only where a read failed, a write fault only where a write failed; what each leaves
+  pub read_fault : r.status ≡ status.ReadFault → FailedRead r
+  pub write_fault : r.status ≡ status.WriteFault → Rose r.faults r.faults_after × PartPrinted r
+  pub no_memory : r.status ≡ status.NoMemory → PartPrinted r

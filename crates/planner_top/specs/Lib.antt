@@ -1,0 +1,13 @@
+pub mod Statuses
+pub mod Asked
+pub mod Requests
+pub mod Reading
+pub mod Contents
+pub mod Checked
+pub mod Choices
+pub mod Texts
+pub mod Reports
+pub mod Answers
+pub mod Problems
+pub mod Runs
+pub mod Headline

@@ -1,0 +1,69 @@
+-- The texts that a run prints, as rows that `csv` writes.
+use Rattle.std.specs.Prelude.{ℕ, ◌+◌, ◌-◌, ◌*◌, List, [], ◌∷◌, ◌++◌, length, map, slice_index, codes, decimal, flat_map}
+use Rattle.std.specs.List.{range_with_len}
+use Rattle.csv.specs.Writing.{row_text, default_writer}
+use Rattle.service_model.specs.declared.plan.Plan.{Plan}
+use Rattle.service_model.specs.Net.{Net, stage_at}
+use Rattle.service_model.specs.Plans.{inbound_at, outbound_at, cost_of}
+use Rattle.planner_top.specs.declared.checked.Checked.{Checked}
+use Rattle.planner_top.specs.declared.stop.FileWord.{FileWord}
+use Rattle.planner_top.specs.declared.stop.FileWord.TheVariants as file
+use Rattle.planner_top.specs.declared.stop.Stop.{Stop}
+use Rattle.planner_top.specs.declared.stop.Stop.TheVariants as stop
+use Rattle.planner_top.specs.Checked.{name_at, unit_at, excess_at}
+
+-- rows as csv writes them, one line each
+unfoldable pub lines_of : List (List (List ℕ)) → List ℕ
+lines_of rows = flat_map (row_text default_writer) rows
+
+-- the net replenishment time of a stage
+abbrev pub net_time : Net → Plan → ℕ → ℕ
+net_time n p j = inbound_at p j + (stage_at n j).lead - outbound_at p j
+
+-- the stock that covers it
+abbrev pub stock_at : Checked → Plan → ℕ → ℕ
+stock_at c p j = slice_index (excess_at c j) (net_time c.network p j)
+
+-- the report on one stage: its name, its times, its stock and what that costs
+abbrev pub report_row : Checked → Plan → ℕ → List (List ℕ)
+report_row c p j =
+    name_at c j
+    ∷ decimal (inbound_at p j)
+    ∷ decimal (outbound_at p j)
+    ∷ decimal (net_time c.network p j)
+    ∷ decimal (stock_at c p j)
+    ∷ decimal (unit_at c j * stock_at c p j)
+    ∷ []
+
+abbrev pub report_header : List (List ℕ)
+report_header = codes "stage" ∷ codes "inbound" ∷ codes "outbound" ∷ codes "time" ∷ codes "stock" ∷ codes "cost" ∷ []
+
+-- the reports on all stages, in their order
+abbrev pub report_rows : Checked → Plan → List (List (List ℕ))
+report_rows c p = map (report_row c p) (range_with_len 0 (length c.network.stages))
+
+abbrev pub ranges_row : List (List ℕ)
+ranges_row = codes "ranges" ∷ codes "1" ∷ []
+
+-- what is printed for a least plan
+abbrev pub plan_rows : Checked → Plan → List (List (List ℕ))
+plan_rows c p = (codes "optimal" ∷ decimal (cost_of c.network p) ∷ []) ∷ report_header ∷ (report_rows c p ++ ranges_row ∷ [])
+
+-- what is printed where no plan is feasible
+abbrev pub infeasible_rows : List (List (List ℕ))
+infeasible_rows = (codes "infeasible" ∷ []) ∷ ranges_row ∷ []
+
+abbrev pub file_text : FileWord → List ℕ
+file_text file.Stages = codes "stages"
+file_text file.Tables = codes "tables"
+file_text file.Arcs = codes "arcs"
+
+-- what is printed where a run is refused
+abbrev pub stop_row : Stop → List (List ℕ)
+stop_row stop.Words = codes "words" ∷ []
+stop_row (stop.TooLong word) = codes "too long" ∷ file_text word ∷ []
+stop_row stop.Refused = codes "refused" ∷ []
+
+-- what is printed where a file could not be read
+abbrev pub fault_row : FileWord → List (List ℕ)
+fault_row word = codes "read fault" ∷ file_text word ∷ []

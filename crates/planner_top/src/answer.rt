@@ -1,0 +1,40 @@
+// The rows that are printed, and how a run ends that prints them.
+ghost use Rattle.std.specs.Prelude.{◌≡◌};
+ghost use Rattle.planner_top.specs.declared.answer.Unanswered.TheVariants as unanswered;
+
+use crate::stop::FileWord;
+use service_model::NoMemory;
+use stage_file::Rows;
+
+/// How a run ends where memory sufficed and no call on the outside failed.
+#[derive(Clone, Copy, Debug, PartialEq, Eq)]
+pub enum Ending {
+    Done,
+    Infeasible,
+    Words,
+    Refused,
+    TooLong,
+}
+
+/// An ending, with the rows that are printed.
+#[derive(Drop)]
+pub struct Answer {
+    pub ending: Ending,
+    pub rows: Rows,
+}
+
+/// Why there is no answer.
+#[derive(Clone, Copy, Debug, PartialEq, Eq)]
+pub enum Unanswered {
+    /// A fetch of the file failed.
+    Fault(FileWord),
+    NoMemory,
+}
+
+impl From<NoMemory> for Unanswered {
+    ghost from_gives = { λ _ e. e ≡ unanswered.NoMemory };
+
+    fn from(_: NoMemory) -> Self {
+        Unanswered::NoMemory
+    }
+}

@@ -1,0 +1,53 @@
+// Reading the three files of a request.
+ghost use Rattle.std.specs.Prelude.{◌≡◌};
+ghost use Rattle.planner_top.specs.Requests.{request_as};
+ghost use Rattle.planner_top.specs.Contents.{FilesCase, unread_of};
+
+use crate::asked::Request;
+use crate::contents::Contents;
+use crate::fetch::read_file;
+use crate::stop::{FileWord, ReadStop, Stop, Unsolved};
+use gsm_outside::Shelf;
+use std::alloc::Global;
+
+/// The most bytes of a stage, table or arc file.
+const FILE_LIMIT: u64 = 16_777_216;
+
+/// Reads the three files in turn.
+pub fn read_files<S: Shelf>(
+    alloc: Global,
+    shelf: &mut S,
+    request: &Request<'_>,
+) -> Result<Contents, Unsolved>
+    ensures case { FilesCase (request_as request.now) (S.held shelf.old) (S.read_faults shelf.old) (S.read_faults shelf.new) result }
+    ensures held { S.held shelf.new ≡ S.held shelf.old }
+    ensures writes { S.write_faults shelf.new ≡ S.write_faults shelf.old }
+{
+    let stages = match read_file(alloc, shelf, request.stages, FILE_LIMIT) {
+        Ok(bytes) => bytes,
+        Err(stop) => return Err(unread(FileWord::Stages, stop)),
+    };
+    let tables = match read_file(alloc, shelf, request.tables, FILE_LIMIT) {
+        Ok(bytes) => bytes,
+        Err(stop) => return Err(unread(FileWord::Tables, stop)),
+    };
+    let arcs = match read_file(alloc, shelf, request.arcs, FILE_LIMIT) {
+        Ok(bytes) => bytes,
+        Err(stop) => return Err(unread(FileWord::Arcs, stop)),
+    };
+    Ok(Contents {
+        stages,
+        tables,
+        arcs,
+    })
+}
+
+fn unread(file: FileWord, stop: ReadStop) -> Unsolved
+    ensures { result ≡ unread_of file stop }
+{
+    match stop {
+        ReadStop::Fault => Unsolved::Fault(file),
+        ReadStop::TooLong => Unsolved::Stop(Stop::TooLong(file)),
+        ReadStop::NoMemory => Unsolved::NoMemory,
+    }
+}

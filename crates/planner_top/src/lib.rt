@@ -1,0 +1,24 @@
+//! The top call: all that the program does, from its words to its status.
+#![tactic(auto)]
+
+mod answer;
+mod asked;
+mod checked;
+mod choice;
+mod contents;
+mod fetch;
+mod files;
+mod least;
+mod plain;
+mod report;
+mod request;
+mod solve;
+mod status;
+mod stop;
+mod text;
+mod top;
+mod words;
+
+pub use status::Status;
+pub use top::run;
+pub use words::Words;

@@ -1,0 +1,48 @@
+// Why a run ends before there is a network to solve.
+ghost use Rattle.std.specs.Prelude.{◌≡◌};
+ghost use Rattle.planner_top.specs.declared.stop.Unsolved.TheVariants as unsolved;
+
+use service_model::NoMemory;
+
+/// A file that a run reads.
+#[derive(Clone, Copy, Debug, PartialEq, Eq)]
+pub enum FileWord {
+    Stages,
+    Tables,
+    Arcs,
+}
+
+/// Why one file was not read.
+#[derive(Clone, Copy, Debug, PartialEq, Eq)]
+pub enum ReadStop {
+    /// A fetch failed.
+    Fault,
+    /// It is longer than its limit.
+    TooLong,
+    NoMemory,
+}
+
+/// Why a run is refused: by its words, by the length of a file, or by a rule on the files.
+#[derive(Clone, Copy, Debug, PartialEq, Eq)]
+pub enum Stop {
+    Words,
+    TooLong(FileWord),
+    Refused,
+}
+
+/// Why a run has no network to solve.
+#[derive(Clone, Copy, Debug, PartialEq, Eq)]
+pub enum Unsolved {
+    Stop(Stop),
+    /// A fetch of the file failed.
+    Fault(FileWord),
+    NoMemory,
+}
+
+impl From<NoMemory> for Unsolved {
+    ghost from_gives = { λ _ e. e ≡ unsolved.NoMemory };
+
+    fn from(_: NoMemory) -> Self {
+        Unsolved::NoMemory
+    }
+}

@@ -1,0 +1,87 @@
+// The top call.
+ghost use Rattle.std.specs.Prelude.{◌≡◌, [], ◌∷◌, IfOk, OnOk, OnErr};
+ghost use Rattle.gsm_outside.specs.Causes.{HasCause};
+ghost use Rattle.planner_top.specs.Texts.{lines_of, fault_row};
+ghost use Rattle.planner_top.specs.Runs.{run_of, Follows, PartFollows, StatusCase, status_of, FaultCase};
+ghost use Rattle.planner_top.specs.Headline.{Headline};
+
+use crate::answer::{Ending, Unanswered};
+use crate::solve::{answer_of, file_text};
+use crate::status::Status;
+use crate::stop::FileWord;
+use crate::text::{row_of, text_of};
+use crate::words::Words;
+use gsm_outside::{OutFault, Shelf, Sink};
+use service_model::{List, NoMemory};
+use stage_file::{Row, Rows};
+use std::alloc::Global;
+
+/// Does all that the program does: reads the files that the words name, solves, and prints the answer.
+pub fn run<S: Shelf, K: Sink>(alloc: Global, words: &Words, shelf: &mut S, out: &mut K) -> Status
+    ensures { Headline (run_of words.now (S.held shelf.old) (S.held shelf.new) (S.read_faults shelf.old) (S.read_faults shelf.new) (S.write_faults shelf.old) (S.write_faults shelf.new) (K.written out.old) (K.written out.new) (K.faults out.old) (K.faults out.new) result) }
+{
+    run_cases(alloc, words, shelf, out)
+}
+
+// The same, by what the status says.
+fn run_cases<S: Shelf, K: Sink>(alloc: Global, words: &Words, shelf: &mut S, out: &mut K) -> Status
+    ensures case { StatusCase (run_of words.now (S.held shelf.old) (S.held shelf.new) (S.read_faults shelf.old) (S.read_faults shelf.new) (S.write_faults shelf.old) (S.write_faults shelf.new) (K.written out.old) (K.written out.new) (K.faults out.old) (K.faults out.new) result) result }
+    ensures held { S.held shelf.new ≡ S.held shelf.old }
+    ensures writes { S.write_faults shelf.new ≡ S.write_faults shelf.old }
+{
+    match answer_of(alloc, words, shelf) {
+        Ok(answer) => match print(alloc, out, answer.rows.as_slice()) {
+            Ok(()) => status_of(answer.ending),
+            Err(OutFault::Failed) => Status::WriteFault,
+            Err(OutFault::NoMemory) => Status::NoMemory,
+        },
+        Err(Unanswered::Fault(file)) => print_fault(alloc, out, file),
+        Err(Unanswered::NoMemory) => Status::NoMemory,
+    }
+}
+
+fn status_of(ending: Ending) -> Status
+    ensures { result ≡ status_of ending }
+{
+    match ending {
+        Ending::Done => Status::Done,
+        Ending::Infeasible => Status::Infeasible,
+        Ending::Words => Status::Words,
+        Ending::Refused => Status::Refused,
+        Ending::TooLong => Status::TooLong,
+    }
+}
+
+// Prints rows.
+fn print<K: Sink>(alloc: Global, out: &mut K, rows: &[Row]) -> Result<(), OutFault>
+    ensures ok { OnOk result (Follows (K.written out.old) (lines_of rows.now) (K.written out.new)) }
+    ensures err { OnErr result (PartFollows (K.written out.old) (lines_of rows.now) (K.written out.new)) }
+    ensures cause { HasCause (K.faults out.old) (K.faults out.new) result }
+{
+    let Ok(text) = text_of(alloc, rows) else {
+        return Err(OutFault::NoMemory);
+    };
+    out.put(text.as_slice())
+}
+
+// Prints that a file could not be read.
+fn print_fault<K: Sink>(alloc: Global, out: &mut K, file: FileWord) -> Status
+    ensures { FaultCase file (K.written out.old) (K.written out.new) (K.faults out.old) (K.faults out.new) result }
+{
+    let Ok(rows) = fault_rows(alloc, file) else {
+        return Status::NoMemory;
+    };
+    match print(alloc, out, rows.as_slice()) {
+        Ok(()) => Status::ReadFault,
+        Err(OutFault::Failed) => Status::WriteFault,
+        Err(OutFault::NoMemory) => Status::NoMemory,
+    }
+}
+
+fn fault_rows(alloc: Global, file: FileWord) -> Result<Rows, NoMemory>
+    ensures { IfOk result (λ rows. rows ≡ fault_row file ∷ []) }
+{
+    let mut rows = List::new(alloc);
+    rows.push(row_of(alloc, &["read fault", file_text(file)])?)?;
+    Ok(rows)
+}
