@@ -10,6 +10,8 @@ pub mod PlanFacts
 pub mod RecordFacts
 mod RowFacts
 pub mod StageNameFacts
+pub mod StageFacts
+pub mod StageLimits
 pub mod TableFacts
 pub mod TableLimits
 pub mod TimeFacts

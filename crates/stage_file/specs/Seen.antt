@@ -1,10 +1,13 @@
 -- Records as the code holds them.
-use Rattle.std.specs.Prelude.{◌-◌, ◌<◌, ◌^◌, List, length, map, All}
+use Rattle.std.specs.Prelude.{ℕ, ◌-◌, ◌<◌, ◌^◌, List, length, map, All}
 use Rattle.stage_file.specs.Records.{Numbered}
 use Rattle.stage_file.specs.declared.record.Record.{Record}
 
+abbrev pub record_of : ℕ → List (List ℕ) → Numbered
+record_of number fields = record { number = number; fields = fields }
+
 abbrev pub seen_as : Record → Numbered
-seen_as r = record { number = r.number; fields = r.fields.now }
+seen_as r = record_of r.number r.fields.now
 
 abbrev pub all_seen : List Record → List Numbered
 all_seen records = map seen_as records

@@ -1,5 +1,5 @@
 -- The rules and the records of a stage file.
-use Rattle.std.specs.Prelude.{◌≢◌, ℕ, ◌<◌, ◌≤◌, ◌==◌, ◌&&◌, not, min, Bool, nat_lt, nat_le, List, [], ◌∷◌, length, take, map, codes, All, AllPairs, Option, if◌then◌else◌}
+use Rattle.std.specs.Prelude.{◌≢◌, ℕ, ◌<◌, ◌≤◌, ◌==◌, ◌&&◌, not, min, Bool, nat_lt, nat_le, List, [], ◌∷◌, ◌++◌, length, take, map, codes, All, AllPairs, Option, if◌then◌else◌}
 use Rattle.std.specs.List.{list_any}
 use Rattle.std.specs.Str.{bytes_eq, IsUtf8}
 use Rattle.service_model.specs.declared.limits.TheConstants.{MAX_TIME, MAX_STAGES}
@@ -57,19 +57,28 @@ stage_limits horizon r =
     ∷ stage_fails r PAST_HORIZON 4 (nat_lt horizon (number_or 0 MAX_TIME (field_in r.fields 4)))
     ∷ []
 
--- the rules on a stage record in their order, given the records between the header and it
-abbrev pub stage_rules : ℕ → List Numbered → Numbered → List (Option FileFault)
-stage_rules horizon earlier r =
+-- the rules on the fields of a stage record by themselves
+abbrev pub stage_field_rules : Numbered → List (Option FileFault)
+stage_field_rules r =
     text_rule Stages r
     ∷ stage_fails r FIELD_COUNT 0 (not (length r.fields == 7))
     ∷ stage_fails r NAME 1 (is_bad_name (field_in r.fields 1))
     ∷ first_of (stage_numbers r)
     ∷ first_of (stage_ranges r)
-    ∷ stage_fails r TOO_MANY 0 (nat_le MAX_STAGES (length earlier))
+    ∷ []
+
+-- the rules on its place among the stages, given the records between the header and it, and on its limits and its bound
+abbrev pub stage_place_rules : ℕ → List Numbered → Numbered → List (Option FileFault)
+stage_place_rules horizon earlier r =
+    stage_fails r TOO_MANY 0 (nat_le MAX_STAGES (length earlier))
     ∷ stage_fails r TWICE 1 (list_any (is_name_of (field_in r.fields 1)) earlier)
     ∷ first_of (stage_limits horizon r)
     ∷ stage_fails r BOUND 6 (is_bad_bound (field_in r.fields 6))
     ∷ []
+
+-- the rules on a stage record in their order
+abbrev pub stage_rules : ℕ → List Numbered → Numbered → List (Option FileFault)
+stage_rules horizon earlier r = stage_field_rules r ++ stage_place_rules horizon earlier r
 
 -- the first rule that fails on record k behind the header
 abbrev pub stage_fault_at : ℕ → List Numbered → ℕ → Option FileFault

@@ -15,6 +15,7 @@ mod record;
 mod rows;
 pub mod rules;
 mod stage_names;
+mod stage_rules;
 mod stages;
 mod tables;
 

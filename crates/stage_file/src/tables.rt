@@ -13,7 +13,7 @@ ghost use Rattle.stage_file.specs.Faults.{fault_of, Reads};
 use crate::field::{is_bad_name, is_kept_name, is_no_number};
 use crate::header::header_fault;
 use crate::limits::{MAX_ENTRIES, MAX_EXCESS, MAX_TABLES};
-use crate::place::{fails_if, text_fault};
+use crate::place::{fails_if, is_full, is_twice, text_fault};
 use crate::record::{Record, below_header, field_in, records_of};
 use crate::rules::{FIELD_COUNT, NAME, NUMBER, RANGE, TABLE_NAME, TOO_MANY, TWICE};
 use crate::{FileFault, FileKind, Names, ReadFault, Rows, Text};
@@ -114,12 +114,17 @@ fn place_fault(record: &Record<'_>, earlier: &[Record<'_>], names: &Names) -> Op
     ensures { result ≡ first_of (table_place_rules (all_seen earlier.now) (seen_as «record».now)) }
 {
     let number = record.number;
-    let count = earlier.len();
     let name = field_in(record.fields, 1);
-    let twice = names.has(name);
-    fails_if(FileKind::Tables, number, TOO_MANY, 0, count >= MAX_TABLES)
-        .or_else(|| fails_if(FileKind::Tables, number, TWICE, 1, twice))
-        .or_else(|| fails_if(FileKind::Tables, number, TABLE_NAME, 1, is_kept_name(name)))
+    let twice = is_twice(record, earlier, names);
+    fails_if(
+        FileKind::Tables,
+        number,
+        TOO_MANY,
+        0,
+        is_full(earlier, MAX_TABLES),
+    )
+    .or_else(|| fails_if(FileKind::Tables, number, TWICE, 1, twice))
+    .or_else(|| fails_if(FileKind::Tables, number, TABLE_NAME, 1, is_kept_name(name)))
 }
 
 // The fields behind the name.
