@@ -9,4 +9,5 @@ pub mod Tables
 pub mod Arcs
 pub mod Ends
 pub mod PlanRecords
+pub mod PlanTimes
 pub mod Raw

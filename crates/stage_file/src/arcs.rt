@@ -3,7 +3,7 @@ ghost use Rattle.std.specs.Prelude.{◌≡◌, ◌≢◌, ◌<◌, ◌-◌, ◌^
 ghost use Rattle.service_model.specs.Search.{first_of, first_below};
 ghost use Rattle.stage_file.specs.Records.{AreCountable, field_in};
 ghost use Rattle.stage_file.specs.Seen.{seen_as, all_seen, AreShort};
-ghost use Rattle.stage_file.specs.Arcs.{place_of, is_no_stage, arc_field_rules, arc_end_rules, arc_rules, arc_fault_at, arc_row_of, arc_file_fault, arc_rows_of, names_of, AreArcRows};
+ghost use Rattle.stage_file.specs.Arcs.{place_of, arc_field_rules, arc_end_rules, arc_rules, arc_fault_at, arc_row_of, arc_file_fault, arc_rows_of, names_of, AreArcRows};
 ghost use Rattle.stage_file.specs.Ends.{is_among, ends_in, HaveEnds};
 ghost use Rattle.stage_file.specs.Faults.{fails_if, Reads};
 
@@ -14,8 +14,9 @@ use crate::limits::MAX_QUANTITY;
 use crate::place::{fails_if, text_fault};
 use crate::record::{Record, below_header, field_in, records_of};
 use crate::rules::{ARC_TWICE, CUSTOMER, FIELD_COUNT, NUMBER, RANGE, SELF_ARC, SUPPLIER, TOO_MANY};
+use crate::stage_names::{is_no_stage, names_of};
 use crate::{FileFault, FileKind, Names, ReadFault, Rows, StageRow, Text};
-use service_model::{List, MAX_ARCS, NoMemory};
+use service_model::{List, MAX_ARCS};
 use std::alloc::Global;
 
 /// A record of an arc file, its blanks filled. Supplier and customer are numbers of stages, from 0 on.
@@ -57,18 +58,6 @@ fn arcs_in(alloc: Global, rows: &Rows, names: &Names) -> Result<List<ArcRow>, Re
         return Err(ReadFault::Fault(fault));
     }
     arcs_below(alloc, names, below_header(&records))
-}
-
-/// The names of the stages, in their order.
-pub fn names_of(alloc: Global, stages: &List<StageRow>) -> Result<Names, NoMemory>
-    requires { AllPairs (λ s t. s.name ≢ t.name) stages.now }
-    ensures { IfOk result (λ names. names ≡ names_of stages.now) }
-{
-    let mut names = Names::new(alloc);
-    'stages: for k in 0..stages.len() {
-        names.push(stages.get(k).name.as_slice())?;
-    }
-    Ok(names)
 }
 
 fn arcs_below(
@@ -174,14 +163,6 @@ fn fails(row: u32, rule: u8, column: u32, fails: bool) -> Option<FileFault>
     ensures { result ≡ fails_if FileKind.Arcs row rule column fails }
 {
     fails_if(FileKind::Arcs, row, rule, column, fails)
-}
-
-/// Whether no stage has the name.
-#[tactic(auto, unfolding(crate::specs::Arcs::is_no_stage))]
-pub fn is_no_stage(names: &Names, name: &[u8]) -> bool
-    ensures { result ≡ is_no_stage names.now name.now }
-{
-    names.place_of(name).is_none()
 }
 
 fn is_among(ends: Option<Ends>, all: &AllEnds) -> bool

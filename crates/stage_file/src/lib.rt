@@ -14,6 +14,7 @@ mod raw;
 mod record;
 mod rows;
 pub mod rules;
+mod stage_names;
 mod stage_rules;
 mod stages;
 mod tables;

@@ -1,7 +1,7 @@
 // The records of the three files of a network.
 ghost use Rattle.std.specs.Prelude.{◌≤◌, IfOk};
 
-use crate::{ArcRow, ReadFault, Rows, StageRow, TableRow};
+use crate::{ArcRow, ReadFault, Rows, StageRow, TableRow, read_arcs, read_stages, read_tables};
 use service_model::List;
 use std::alloc::Global;
 
@@ -32,5 +32,13 @@ pub fn raw_net(alloc: Global, files: &Files, horizon: u16) -> Result<RawNet, Rea
     ensures value { Reads (raw_fault horizon files.now) (raw_of horizon files.now) result }
     ensures within { IfOk result IsRawNet }
 {
-    Err(ReadFault::NoMemory)
+    let stages = read_stages(alloc, &files.stages, horizon)?;
+    let tables = read_tables(alloc, &files.tables)?;
+    let arcs = read_arcs(alloc, &files.arcs, &stages)?;
+    Ok(RawNet {
+        horizon,
+        stages,
+        tables,
+        arcs,
+    })
 }

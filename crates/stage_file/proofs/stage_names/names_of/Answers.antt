@@ -1,8 +1,8 @@
 use Rattle.std.proofs.Common.{◌<◌, length, arith, refl}
 use Rattle.std.proofs.lemmas.List.{map_more}
 use Rattle.stage_file.specs.declared.stages.StageRow.{StageRow}
-use Rattle.stage_file.proofs.ArcFacts.{name_new}
-use Rattle.stage_file.proofs.arcs.names_of.Goals as goal
+use Rattle.stage_file.proofs.StageNameFacts.{name_new}
+use Rattle.stage_file.proofs.stage_names.names_of.Goals as goal
 
 pub push-requires : goal.push-requires
 push-requires c =
