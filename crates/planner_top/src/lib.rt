@@ -15,6 +15,10 @@ mod request;
 mod solve;
 mod status;
 mod stop;
+#[cfg(test)]
+mod tests;
+#[cfg(test)]
+mod tests_failed;
 mod text;
 mod top;
 mod words;

@@ -81,13 +81,19 @@ fn plan_rows(alloc: Global, checked: &Checked, plan: &Plan) -> Result<Rows, NoMe
     outcome.push(number(alloc, checked.network.cost(plan))?)?;
     let mut rows = List::new(alloc);
     rows.push(outcome)?;
-    rows.push(row_of(
-        alloc,
-        &["stage", "inbound", "outbound", "time", "stock", "cost"],
-    )?)?;
+    rows.push(report_header(alloc)?)?;
     push_report(alloc, checked, plan, &mut rows)?;
     rows.push(ranges_row(alloc)?)?;
     Ok(rows)
+}
+
+fn report_header(alloc: Global) -> Result<Row, NoMemory>
+    ensures { IfOk result (λ row. row ≡ report_header) }
+{
+    row_of(
+        alloc,
+        &["stage", "inbound", "outbound", "time", "stock", "cost"],
+    )
 }
 
 fn infeasible_rows(alloc: Global) -> Result<Rows, NoMemory>

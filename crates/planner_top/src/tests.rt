@@ -1,0 +1,231 @@
+use super::*;
+use gsm_outside::{SureShelf, SureSink};
+use std::alloc::Global;
+use std::test::Fail;
+
+pub fn words_of(alloc: Global, all: &[&str]) -> Result<Words, Fail> {
+    let mut words = Words::new(alloc);
+    for word in all {
+        words.push(word)?;
+    }
+    Ok(words)
+}
+
+// Three files, a horizon, and what is to be printed with which status.
+struct Case<'a> {
+    name: &'a str,
+    horizon: &'a str,
+    stages: &'a str,
+    tables: &'a str,
+    arcs: &'a str,
+    status: Status,
+    text: &'a str,
+}
+
+const CASES: [Case<'static>; 9] = [
+    Case {
+        name: "plain",
+        horizon: "horizon=10",
+        stages: "stage,lead,supply,least,most,bound,unit\nA,5,,,2,t,1\n",
+        tables: "table,x\nt,0,10,14,17,20,22\n",
+        arcs: "",
+        status: Status::Done,
+        text: "optimal,17\nstage,inbound,outbound,time,stock,cost\nA,0,2,3,17,17\nranges,1\n",
+    },
+    Case {
+        name: "empty",
+        horizon: "horizon=5",
+        stages: "stage,lead,supply,least,most,bound,unit\n",
+        tables: "table,x\n",
+        arcs: "",
+        status: Status::Refused,
+        text: "refused\n",
+    },
+    Case {
+        name: "infeasible",
+        horizon: "horizon=10",
+        stages: "stage,lead,supply,least,most,bound,unit\nA,9,,,0,t,1\n",
+        tables: "table,x\nt,0,1,2,3\n",
+        arcs: "",
+        status: Status::Infeasible,
+        text: "infeasible\nranges,1\n",
+    },
+    Case {
+        name: "a falling list",
+        horizon: "horizon=2",
+        stages: "stage,lead,supply,least,most,bound,unit\nA,0,,,0,t,1\n",
+        tables: "table,x\nt,9,4,1\n",
+        arcs: "",
+        status: Status::Done,
+        text: "optimal,1\nstage,inbound,outbound,time,stock,cost\nA,2,0,2,1,1\nranges,1\n",
+    },
+    Case {
+        name: "a cycle",
+        horizon: "horizon=10",
+        stages: "stage,lead,supply,least,most,bound,unit\nD,1,,,,t,1\nA,1,,,,t,1\nB,1,,,,t,1\nC,1,,,,t,1\n",
+        tables: "table,x\nt,0,1,2,3\n",
+        arcs: "supplier,customer,quantity\nA,B,1\nB,C,1\nC,A,1\nC,D,1\n",
+        status: Status::Refused,
+        text: "refused\n",
+    },
+    Case {
+        name: "the usual producer",
+        horizon: "horizon=8",
+        stages: "\u{feff}stage,lead,supply,least,most,bound,unit\r\n\"Hub, north\", 7 ,,,6,flat,2",
+        tables: "table,x\nflat,0,3,6,8\n",
+        arcs: "",
+        status: Status::Done,
+        text: "optimal,6\nstage,inbound,outbound,time,stock,cost\n\"Hub, north\",0,6,1,3,6\nranges,1\n",
+    },
+    Case {
+        name: "a bound by demand",
+        horizon: "horizon=10",
+        stages: "stage,lead,supply,least,most,bound,unit\nA,5,,,2,sum,1\n",
+        tables: "table,x\nt,0,10,14,17,20,22\n",
+        arcs: "",
+        status: Status::Refused,
+        text: "refused\n",
+    },
+    Case {
+        name: "an unknown table",
+        horizon: "horizon=10",
+        stages: "stage,lead,supply,least,most,bound,unit\nA,5,,,2,u,1\n",
+        tables: "table,x\nt,0,10,14,17,20,22\n",
+        arcs: "",
+        status: Status::Refused,
+        text: "refused\n",
+    },
+    Case {
+        name: "a fraction",
+        horizon: "horizon=10",
+        stages: "stage,lead,supply,least,most,bound,unit\nA,5.0,,,2,t,1\n",
+        tables: "table,x\nt,0,10,14,17,20,22\n",
+        arcs: "",
+        status: Status::Refused,
+        text: "refused\n",
+    },
+];
+
+// Runs the five words over three files, into the sink.
+fn run_over(
+    alloc: Global,
+    horizon: &str,
+    files: [&str; 3],
+    out: &mut SureSink,
+) -> Result<Status, Fail> {
+    let words = words_of(alloc, &["solve", "stages=s", "tables=t", "arcs=a", horizon])?;
+    let mut shelf = SureShelf::new(alloc);
+    shelf.with_file("s", files[0].as_bytes())?;
+    shelf.with_file("t", files[1].as_bytes())?;
+    shelf.with_file("a", files[2].as_bytes())?;
+    Ok(run(alloc, &words, &mut shelf, out))
+}
+
+#[test]
+fn plain_files_are_solved_and_others_refused(rt: HostRuntime) -> Result<(), Fail> {
+    let alloc = rt.alloc();
+    for case in &CASES {
+        let mut out = SureSink::new(alloc);
+        let files = [case.stages, case.tables, case.arcs];
+        let status = run_over(alloc, case.horizon, files, &mut out)?;
+        let got = (status, out.written());
+        assert_eq!(rt; got, (case.status, case.text.as_bytes()), "{}", case.name);
+    }
+    Ok(())
+}
+
+#[test]
+fn anything_but_the_five_words_is_refused(rt: HostRuntime) -> Result<(), Fail> {
+    let alloc = rt.alloc();
+    let cases: [&[&str]; 8] = [
+        &[],
+        &["--help"],
+        &["solve", "stages=s", "tables=t", "arcs=a"],
+        &["solve", "stages=s", "tables=t", "arcs=a", "horizon=401"],
+        &["solve", "stages=s", "tables=t", "arcs=a", "horizon=5.0"],
+        &["solve", "stages=", "tables=t", "arcs=a", "horizon=5"],
+        &["solve", "tables=t", "stages=s", "arcs=a", "horizon=5"],
+        &[
+            "solve",
+            "stages=s",
+            "tables=t",
+            "arcs=a",
+            "horizon=5",
+            "cert=c",
+        ],
+    ];
+    for all in cases {
+        let words = words_of(alloc, all)?;
+        let mut shelf = SureShelf::new(alloc);
+        let mut out = SureSink::new(alloc);
+        let status = run(alloc, &words, &mut shelf, &mut out);
+        assert_eq!(rt;
+            (status, out.written()),
+            (Status::Words, b"words\n".as_slice())
+        );
+    }
+    Ok(())
+}
+
+// A thousand stages that all cost as much as a stage can.
+fn costly_stages(alloc: Global) -> Result<String, Fail> {
+    let mut stages = String::from_str(alloc, "stage,lead,supply,least,most,bound,unit\n")?;
+    for k in 1..1001 {
+        stages.push_str(format!(in alloc; "s{k},0,,,,big,1000000\n")?.as_str())?;
+    }
+    Ok(stages)
+}
+
+#[test]
+fn the_largest_sum_is_still_exact(rt: HostRuntime) -> Result<(), Fail> {
+    let alloc = rt.alloc();
+    let stages = costly_stages(alloc)?;
+    let mut out = SureSink::new(alloc);
+    let files = [stages.as_str(), "table,x\nbig,1000000000\n", ""];
+    let status = run_over(alloc, "horizon=0", files, &mut out)?;
+    assert_eq!(rt; status, Status::Done);
+    assert!(rt; out.written().starts_with(b"optimal,1000000000000000000\n"));
+    assert!(rt;
+        out.written()
+            .ends_with(b"s1000,0,0,0,1000000000,1000000000000000\nranges,1\n")
+    );
+    Ok(())
+}
+
+#[test]
+fn a_file_past_its_limit_is_too_long(rt: HostRuntime) -> Result<(), Fail> {
+    let alloc = rt.alloc();
+    let words = words_of(
+        alloc,
+        &["solve", "stages=s", "tables=t", "arcs=a", "horizon=10"],
+    )?;
+    let mut shelf = SureShelf::new(alloc);
+    shelf.with_file("s", vec![in alloc; b'x'; 16_777_217]?.as_slice())?;
+    let mut out = SureSink::new(alloc);
+    let status = run(alloc, &words, &mut shelf, &mut out);
+    assert_eq!(rt;
+        (status, out.written()),
+        (Status::TooLong, b"too long,stages\n".as_slice())
+    );
+    Ok(())
+}
+
+#[test]
+fn each_status_has_its_number(rt: HostRuntime) {
+    let numbers = [
+        (Status::Done, 0),
+        (Status::Infeasible, 2),
+        (Status::Spent, 3),
+        (Status::Words, 4),
+        (Status::Refused, 5),
+        (Status::TooLong, 6),
+        (Status::ReadFault, 7),
+        (Status::WriteFault, 8),
+        (Status::NoMemory, 9),
+        (Status::NotAccepted, 10),
+        (Status::NotFeasible, 11),
+    ];
+    for (status, number) in numbers {
+        assert_eq!(rt; status.number(), number);
+    }
+}

@@ -1,0 +1,75 @@
+use super::*;
+use crate::tests::words_of;
+use gsm_outside::{MemShelf, MemSink};
+use std::alloc::Global;
+use std::test::Fail;
+
+// A shelf with the plain case, whose listed calls fail.
+fn plain_shelf(alloc: Global, failing: Vec<u64>) -> Result<MemShelf, Fail> {
+    let mut shelf = MemShelf::new(alloc, failing);
+    shelf.with_file(
+        "s",
+        b"stage,lead,supply,least,most,bound,unit\nA,5,,,2,t,1\n",
+    )?;
+    shelf.with_file("t", b"table,x\nt,0,10,14,17,20,22\n")?;
+    shelf.with_file("a", b"supplier,customer,quantity\n")?;
+    Ok(shelf)
+}
+
+#[test]
+fn each_read_that_fails_is_told_by_its_file(rt: HostRuntime) -> Result<(), Fail> {
+    let alloc = rt.alloc();
+    let words = words_of(
+        alloc,
+        &["solve", "stages=s", "tables=t", "arcs=a", "horizon=10"],
+    )?;
+    let cases: [(u64, &str); 6] = [
+        (1, "read fault,stages\n"),
+        (2, "read fault,stages\n"),
+        (3, "read fault,tables\n"),
+        (4, "read fault,tables\n"),
+        (5, "read fault,arcs\n"),
+        (6, "read fault,arcs\n"),
+    ];
+    for (call, text) in cases {
+        let mut shelf = plain_shelf(alloc, vec![in alloc; call]?)?;
+        let mut out = MemSink::new(alloc, Vec::new(alloc));
+        let status = run(alloc, &words, &mut shelf, &mut out);
+        assert_eq!(rt; status, Status::ReadFault, "call {call}");
+        assert_eq!(rt; out.written(), text.as_bytes(), "call {call}");
+    }
+    Ok(())
+}
+
+#[test]
+fn a_missing_file_is_a_read_fault(rt: HostRuntime) -> Result<(), Fail> {
+    let alloc = rt.alloc();
+    let words = words_of(
+        alloc,
+        &["solve", "stages=s", "tables=u", "arcs=a", "horizon=10"],
+    )?;
+    let mut shelf = plain_shelf(alloc, Vec::new(alloc))?;
+    let mut out = MemSink::new(alloc, Vec::new(alloc));
+    let status = run(alloc, &words, &mut shelf, &mut out);
+    assert_eq!(rt; status, Status::ReadFault);
+    assert_eq!(rt; out.written(), b"read fault,tables\n".as_slice());
+    assert!(rt; shelf.bytes_of("u").is_none());
+    Ok(())
+}
+
+#[test]
+fn a_put_that_fails_is_a_write_fault(rt: HostRuntime) -> Result<(), Fail> {
+    let alloc = rt.alloc();
+    let words = words_of(
+        alloc,
+        &["solve", "stages=s", "tables=t", "arcs=a", "horizon=10"],
+    )?;
+    for failing in [0, 2] {
+        let mut shelf = plain_shelf(alloc, vec![in alloc; failing]?)?;
+        let mut out = MemSink::new(alloc, vec![in alloc; 1]?);
+        let status = run(alloc, &words, &mut shelf, &mut out);
+        assert_eq!(rt; status, Status::WriteFault, "shelf call {failing}");
+        assert_eq!(rt; out.written(), b"".as_slice(), "shelf call {failing}");
+    }
+    Ok(())
+}
