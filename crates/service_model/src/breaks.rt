@@ -64,7 +64,8 @@ impl Network {
             let arc = self.arcs().get(a);
             let outbound = *plan.outbound.get(arc.supplier as usize);
             let inbound = *plan.inbound.get(arc.customer as usize);
-            if outbound as u32 + arc.transit as u32 > inbound as u32 {
+            let arrival = outbound as u32 + arc.transit as u32;
+            if arrival > inbound as u32 {
                 return Some(Break {
                     rule: NOT_WAITED,
                     place: a as u32,
