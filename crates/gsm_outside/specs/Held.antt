@@ -12,7 +12,8 @@ Held = map.FinMap (slice_cmp nat_cmp) (List ℕ)
 abbrev pub file_bytes : Held → List ℕ → List ℕ
 file_bytes held name = unwrap_or (map.get held name) []
 
--- the bytes of a file from a place on stand at the front of a buffer: no more than fit and are left, and at least one where one is left
+-- bytes of a file from a place on stand at the front of a buffer: no more of them than fit and are left,
+-- and at least one where one is left
 pub record Fetched (file : List ℕ) (at : ℕ) (buffer : List ℕ) (count : ℕ) : Type 0 where
   pub fits : count ≤ length buffer
   pub bytes : take count buffer ≡ take count (drop at file)
@@ -24,14 +25,22 @@ abbrev pub most_fetched : List ℕ → ℕ → List ℕ → ℕ
 most_fetched file at buffer = min (length buffer) (length (drop at file))
 
 -- a name holds these bytes and no others, and the other names stay
-abbrev pub put_in : List ℕ → List ℕ → Option Held → Option Held
-put_in name bytes = option_map (λ held. map.insert held name bytes)
+abbrev pub with_bytes : Held → List ℕ → List ℕ → Held
+with_bytes held name bytes = map.insert held name bytes
 
 -- a piece follows the bytes of a name, and the other names stay
-abbrev pub add_to : List ℕ → List ℕ → Option Held → Option Held
-add_to name piece = option_map (λ held. map.insert held name (file_bytes held name ++ piece))
+abbrev pub with_piece : Held → List ℕ → List ℕ → Held
+with_piece held name piece = map.insert held name (file_bytes held name ++ piece)
 
--- after a refused append nothing has changed, or a prefix of the piece follows the bytes of the name
+-- the same where it is told: a name holds these bytes and no others
+abbrev pub put_in : List ℕ → List ℕ → Option Held → Option Held
+put_in name bytes = option_map (λ held. with_bytes held name bytes)
+
+-- the same where it is told: a piece follows the bytes of a name
+abbrev pub add_to : List ℕ → List ℕ → Option Held → Option Held
+add_to name piece = option_map (λ held. with_piece held name piece)
+
+-- after a refused append nothing has changed, or a prefix of the piece follows the name's bytes
 abbrev pub AddedPart : List ℕ → List ℕ → Option Held → Option Held → Type 0
 AddedPart name piece old new = (new ≡ old) ⊎ ((n : ℕ) × (new ≡ add_to name (take n piece) old))
 

@@ -3,3 +3,4 @@ pub mod Held
 pub mod Kept
 pub mod Memory
 pub mod Real
+pub mod Written

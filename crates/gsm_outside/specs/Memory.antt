@@ -1,8 +1,8 @@
 -- What the shelves and sinks in memory keep.
-use Rattle.std.specs.Prelude.{◌≡◌, ℕ, ◌+◌, List, Option, None, Contains}
+use Rattle.std.specs.Prelude.{◌≡◌, ℕ, ◌+◌, List, None, Contains}
 use Rattle.std.specs.FinMap as map
 use Rattle.gsm_outside.specs.Causes.{next_count}
-use Rattle.gsm_outside.specs.Held.{Held}
+use Rattle.gsm_outside.specs.Held.{Held, file_bytes}
 use Rattle.gsm_outside.specs.declared.sure.SureShelf.{SureShelf}
 use Rattle.gsm_outside.specs.declared.sure.SureSink.{SureSink}
 use Rattle.gsm_outside.specs.declared.failing.MemShelf.{MemShelf}
@@ -12,6 +12,10 @@ use Rattle.gsm_outside.specs.declared.failing.MemSink.{MemSink}
 abbrev pub sure_files : SureShelf → Held
 sure_files shelf = shelf.files
 
+-- the bytes of a name on it, and none where it is missing
+abbrev pub sure_bytes : SureShelf → List ℕ → List ℕ
+sure_bytes shelf name = file_bytes (sure_files shelf) name
+
 -- what was written to a sink that never fails
 abbrev pub sure_written : SureSink → List ℕ
 sure_written sink = sink.bytes.items
@@ -19,6 +23,10 @@ sure_written sink = sink.bytes.items
 -- the files of a shelf whose listed calls fail
 abbrev pub mem_files : MemShelf → Held
 mem_files shelf = shelf.files
+
+-- the bytes of a name on it, and none where it is missing
+abbrev pub mem_bytes : MemShelf → List ℕ → List ℕ
+mem_bytes shelf name = file_bytes (mem_files shelf) name
 
 -- the numbers of the calls that are to fail
 abbrev pub mem_failing : MemShelf → List ℕ

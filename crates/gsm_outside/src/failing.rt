@@ -3,7 +3,7 @@ ghost use Rattle.std.specs.Prelude.{◌≡◌, ◌<◌, ◌⊎◌, ◌↔◌, �
 ghost use Rattle.std.specs.Option.{option_copied};
 ghost use Rattle.std.specs.FinMap as map;
 ghost use Rattle.gsm_outside.specs.Causes.{count_after};
-ghost use Rattle.gsm_outside.specs.Held.{file_bytes, Fetched, most_fetched};
+ghost use Rattle.gsm_outside.specs.Held.{Fetched, most_fetched, with_bytes, with_piece};
 
 use crate::calls::Calls;
 use crate::fault::count_fault;
@@ -11,7 +11,8 @@ use crate::kept::{Kept, copy_from};
 use crate::{OutFault, Shelf, Sink};
 use std::alloc::Global;
 
-/// Files in memory, for runs in which calls fail: those whose numbers are listed, and a fetch or an append on a missing name.
+/// Files in memory, for runs in which calls fail: those whose numbers are listed, and a fetch or an append on a
+/// missing name.
 #[derive(Drop)]
 pub struct MemShelf {
     files: Kept,
@@ -39,9 +40,9 @@ impl MemShelf {
         }
     }
 
-    /// Puts a file on the shelf, in the place of one of that name. It is not counted, and does not fail.
+    /// Puts a file on the shelf, in the place of one of that name. It is not counted among the calls.
     pub fn with_file(&mut self, name: &str, bytes: &[u8]) -> Result<(), OutFault>
-        ensures ok { OnOk result (mem_files self.new ≡ map.insert (mem_files self.old) name.now bytes.now) }
+        ensures ok { OnOk result (mem_files self.new ≡ with_bytes (mem_files self.old) name.now bytes.now) }
         ensures unchanged { OnErr result (mem_files self.new ≡ mem_files self.old) }
         ensures uncounted { IsUncounted self.old self.new }
         ensures only { IsOkUnless result OutFault.NoMemory }
@@ -59,7 +60,7 @@ impl MemShelf {
 }
 
 impl Shelf for MemShelf {
-    ghost use Rattle.gsm_outside.specs.Memory.{mem_files, mem_read_faults, mem_write_faults, IsNextListed, IsMissing, IsCounted};
+    ghost use Rattle.gsm_outside.specs.Memory.{mem_files, mem_bytes, mem_read_faults, mem_write_faults, IsNextListed, IsMissing, IsCounted};
 
     ghost held = { λ shelf. Some (mem_files shelf) };
 
@@ -69,11 +70,12 @@ impl Shelf for MemShelf {
 
     fn fetch(&mut self, name: &str, at: u64, buf: &mut [u8]) -> Result<usize, OutFault>
         requires { 0 < length buf.old }
-        ensures bytes { IfOk result (λ n. Fetched (file_bytes (mem_files self.old) name.now) at buf.new n) }
-        ensures count { IfOk result (λ n. n ≡ most_fetched (file_bytes (mem_files self.old) name.now) at buf.new) }
+        ensures bytes { IfOk result (λ n. Fetched (mem_bytes self.old name.now) at buf.new n) }
+        ensures count { IfOk result (λ n. n ≡ most_fetched (mem_bytes self.old name.now) at buf.new) }
         ensures held { mem_files self.new ≡ mem_files self.old }
 
-        ensures fails { IsErrOf result OutFault.Failed ↔ (IsNextListed self.old ⊎ IsMissing self.old name.now) }
+        ensures fails { IsErrOf result OutFault.Failed
+            ↔ (IsNextListed self.old ⊎ IsMissing self.old name.now) }
         ensures only { IsOkUnless result OutFault.Failed }
         ensures counted { IsCounted self.old self.new }
         ensures reads { mem_read_faults self.new ≡ count_after (mem_read_faults self.old) result }
@@ -88,7 +90,7 @@ impl Shelf for MemShelf {
     }
 
     fn create(&mut self, name: &str) -> Result<(), OutFault>
-        ensures ok { OnOk result (mem_files self.new ≡ map.insert (mem_files self.old) name.now []) }
+        ensures ok { OnOk result (mem_files self.new ≡ with_bytes (mem_files self.old) name.now []) }
         ensures unchanged { OnErr result (mem_files self.new ≡ mem_files self.old) }
 
         ensures fails { IsErrOf result OutFault.Failed ↔ IsNextListed self.old }
@@ -104,10 +106,11 @@ impl Shelf for MemShelf {
     }
 
     fn append(&mut self, name: &str, piece: &[u8]) -> Result<(), OutFault>
-        ensures ok { OnOk result (mem_files self.new ≡ map.insert (mem_files self.old) name.now (file_bytes (mem_files self.old) name.now ++ piece.now)) }
+        ensures ok { OnOk result (mem_files self.new ≡ with_piece (mem_files self.old) name.now piece.now) }
         ensures unchanged { OnErr result (mem_files self.new ≡ mem_files self.old) }
 
-        ensures fails { IsErrOf result OutFault.Failed ↔ (IsNextListed self.old ⊎ IsMissing self.old name.now) }
+        ensures fails { IsErrOf result OutFault.Failed
+            ↔ (IsNextListed self.old ⊎ IsMissing self.old name.now) }
         ensures counted { IsCounted self.old self.new }
         ensures reads { mem_read_faults self.new ≡ mem_read_faults self.old }
         ensures writes { mem_write_faults self.new ≡ count_after (mem_write_faults self.old) result }

@@ -1,6 +1,6 @@
 // The real files and the real output: the trusted edge.
 ghost use Rattle.std.specs.Prelude.{◌≡◌, ◌<◌, ◌≤◌, None, length, IfOk, IsOkUnless};
-ghost use Rattle.gsm_outside.specs.Causes.{HasCause, count_after};
+ghost use Rattle.gsm_outside.specs.Causes.{count_after};
 
 use crate::fault::count_fault;
 use crate::{OutFault, Shelf, Sink};
@@ -87,9 +87,14 @@ fn read_at<R: Files>(rt: &R, name: &str, at: u64, buf: &mut [u8]) -> io::Result<
 
 fn write_behind<R: Files>(rt: &R, name: &str, piece: &[u8]) -> io::Result<()> {
     let mut file = OpenOptions::new().append(true).create(true).open(rt, name)?;
+    write_whole(&mut file, piece)
+}
+
+// std's `write_all` goes on after an interrupted write, and this ends at the first error.
+fn write_whole<W: Write>(writer: &mut W, piece: &[u8]) -> io::Result<()> {
     let mut rest = piece;
     'turns: while !rest.is_empty() {
-        let count = file.write(rest)?;
+        let count = writer.write(rest)?;
         if count == 0 {
             return Err(io::Error::from(io::ErrorKind::WriteZero));
         }
@@ -127,21 +132,9 @@ impl<'a, R: Print> Sink for StdSink<'a, R> {
         ensures only { IsOkUnless result OutFault.Failed }
         ensures faults { output_faults self.new ≡ count_after (output_faults self.old) result }
     {
-        match print_all(self.rt, piece) {
+        match write_whole(&mut io::writer(self.rt), piece) {
             Ok(()) => Ok(()),
             Err(_) => Err(count_fault(&mut self.faults)),
         }
     }
-}
-
-fn print_all<R: Print>(rt: &R, piece: &[u8]) -> io::Result<()> {
-    let mut rest = piece;
-    'turns: while !rest.is_empty() {
-        let count = rt.write_some(rest)?;
-        if count == 0 {
-            return Err(io::Error::from(io::ErrorKind::WriteZero));
-        }
-        rest = &rest[count..];
-    }
-    Ok(())
 }

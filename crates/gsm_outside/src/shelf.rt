@@ -16,12 +16,13 @@ pub trait Shelf {
     /// How often a create or an append has failed.
     ghost write_faults: { Self → ℕ };
 
-    /// Reads the bytes of a file from a place on into a buffer, and says how many came: perhaps fewer than
-    /// fit, but none only at the end. A missing name fails or reads as empty.
+    /// Reads bytes of a file from a place on into a buffer, and says how many. Fewer than fit may come, but none
+    /// only at the end of the file. A missing name fails or reads as empty.
     fn fetch(&mut self, name: &str, at: u64, buf: &mut [u8]) -> Result<usize, OutFault>
         requires { 0 < length buf.old }
         ensures within { IfOk result (λ n. n ≤ length buf.new) }
-        ensures bytes { IfOk result (λ n. IfSome (held self.old) (λ files. Fetched (file_bytes files name.now) at buf.new n)) }
+        ensures bytes { IfOk result (λ n. IfSome (held self.old)
+            (λ files. Fetched (file_bytes files name.now) at buf.new n)) }
         ensures held { held self.new ≡ held self.old }
         ensures cause { HasCause (read_faults self.old) (read_faults self.new) result }
         ensures writes { write_faults self.new ≡ write_faults self.old };

@@ -1,6 +1,7 @@
 // Where output goes, by what was written and how often it has failed.
-ghost use Rattle.std.specs.Prelude.{◌≡◌, ℕ, List, ◌++◌, Option, take, option_map, OnOk, OnErr};
+ghost use Rattle.std.specs.Prelude.{◌≡◌, ℕ, List, Option, OnOk, OnErr};
 ghost use Rattle.gsm_outside.specs.Causes.{HasCause};
+ghost use Rattle.gsm_outside.specs.Written.{put_behind, PutPart};
 
 use crate::OutFault;
 
@@ -14,7 +15,7 @@ pub trait Sink {
 
     /// Writes a piece behind what was written.
     fn put(&mut self, piece: &[u8]) -> Result<(), OutFault>
-        ensures ok { OnOk result (written self.new ≡ option_map (λ bytes. bytes ++ piece.now) (written self.old)) }
-        ensures err { OnErr result ((n : ℕ) × (written self.new ≡ option_map (λ bytes. bytes ++ take n piece.now) (written self.old))) }
+        ensures ok { OnOk result (written self.new ≡ put_behind piece.now (written self.old)) }
+        ensures err { OnErr result (PutPart piece.now (written self.old) (written self.new)) }
         ensures cause { HasCause (faults self.old) (faults self.new) result };
 }

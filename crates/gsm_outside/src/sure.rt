@@ -1,14 +1,14 @@
 // A shelf and a sink in memory that never fail.
-ghost use Rattle.std.specs.Prelude.{◌≡◌, ◌<◌, ◌++◌, [], Some, length, option_map, IsOk, IfOk, OnOk, OnErr, IsOkUnless};
+ghost use Rattle.std.specs.Prelude.{◌≡◌, ◌<◌, ◌++◌, [], Some, length, IsOk, IfOk, OnOk, OnErr, IsOkUnless};
 ghost use Rattle.std.specs.Option.{option_copied};
 ghost use Rattle.std.specs.FinMap as map;
-ghost use Rattle.gsm_outside.specs.Held.{file_bytes, Fetched, most_fetched};
+ghost use Rattle.gsm_outside.specs.Held.{Fetched, most_fetched, with_bytes, with_piece};
 
 use crate::kept::{Kept, copy_from};
 use crate::{OutFault, Shelf, Sink};
 use std::alloc::Global;
 
-/// Files in memory, for runs in which no call fails. A missing name reads as empty, and an append makes it.
+/// Files in memory, for runs in which no call fails. A missing name reads as empty; an append makes it.
 #[derive(Drop)]
 pub struct SureShelf {
     files: Kept,
@@ -28,7 +28,7 @@ impl SureShelf {
 
     /// Puts a file on the shelf, in the place of one of that name.
     pub fn with_file(&mut self, name: &str, bytes: &[u8]) -> Result<(), OutFault>
-        ensures ok { OnOk result (sure_files self.new ≡ map.insert (sure_files self.old) name.now bytes.now) }
+        ensures ok { OnOk result (sure_files self.new ≡ with_bytes (sure_files self.old) name.now bytes.now) }
         ensures unchanged { OnErr result (sure_files self.new ≡ sure_files self.old) }
         ensures only { IsOkUnless result OutFault.NoMemory }
     {
@@ -45,7 +45,7 @@ impl SureShelf {
 }
 
 impl Shelf for SureShelf {
-    ghost use Rattle.gsm_outside.specs.Memory.{sure_files};
+    ghost use Rattle.gsm_outside.specs.Memory.{sure_files, sure_bytes};
 
     ghost held = { λ shelf. Some (sure_files shelf) };
 
@@ -56,8 +56,8 @@ impl Shelf for SureShelf {
     fn fetch(&mut self, name: &str, at: u64, buf: &mut [u8]) -> Result<usize, OutFault>
         requires { 0 < length buf.old }
         ensures succeeds { IsOk result }
-        ensures bytes { IfOk result (λ n. Fetched (file_bytes (sure_files self.old) name.now) at buf.new n) }
-        ensures count { IfOk result (λ n. n ≡ most_fetched (file_bytes (sure_files self.old) name.now) at buf.new) }
+        ensures bytes { IfOk result (λ n. Fetched (sure_bytes self.old name.now) at buf.new n) }
+        ensures count { IfOk result (λ n. n ≡ most_fetched (sure_bytes self.old name.now) at buf.new) }
         ensures held { sure_files self.new ≡ sure_files self.old }
     {
         match self.files.bytes_of(name.as_bytes()) {
@@ -67,7 +67,7 @@ impl Shelf for SureShelf {
     }
 
     fn create(&mut self, name: &str) -> Result<(), OutFault>
-        ensures ok { OnOk result (sure_files self.new ≡ map.insert (sure_files self.old) name.now []) }
+        ensures ok { OnOk result (sure_files self.new ≡ with_bytes (sure_files self.old) name.now []) }
         ensures unchanged { OnErr result (sure_files self.new ≡ sure_files self.old) }
         ensures only { IsOkUnless result OutFault.NoMemory }
     {
@@ -76,7 +76,7 @@ impl Shelf for SureShelf {
     }
 
     fn append(&mut self, name: &str, piece: &[u8]) -> Result<(), OutFault>
-        ensures ok { OnOk result (sure_files self.new ≡ map.insert (sure_files self.old) name.now (file_bytes (sure_files self.old) name.now ++ piece.now)) }
+        ensures ok { OnOk result (sure_files self.new ≡ with_piece (sure_files self.old) name.now piece.now) }
         ensures unchanged { OnErr result (sure_files self.new ≡ sure_files self.old) }
         ensures only { IsOkUnless result OutFault.NoMemory }
     {

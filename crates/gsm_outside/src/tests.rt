@@ -19,22 +19,32 @@ fn read_whole<S: Shelf>(alloc: Global, shelf: &mut S, name: &str) -> Result<Vec<
     Ok(bytes)
 }
 
-fn write_pieces<S: Shelf>(shelf: &mut S, name: &str, pieces: &[&[u8]]) -> Result<(), OutFault> {
+fn write_plan<S: Shelf>(shelf: &mut S, name: &str) -> Result<(), OutFault> {
     shelf.create(name)?;
-    for piece in pieces {
-        shelf.append(name, piece)?;
-    }
+    shelf.append(name, b"inbound")?;
+    shelf.append(name, b"")?;
+    shelf.append(name, b",outbound")
+}
+
+fn assert_reads<S: Shelf>(
+    rt: &(impl AllocGlobal + Abort),
+    shelf: &mut S,
+    name: &str,
+    want: &str,
+) -> Result<(), OutFault> {
+    let bytes = read_whole(rt.alloc(), shelf, name)?;
+    assert_eq!(rt; bytes.as_slice(), want.as_bytes());
     Ok(())
 }
 
-fn put_pieces<K: Sink>(sink: &mut K, pieces: &[&[u8]]) -> Result<(), OutFault> {
-    for piece in pieces {
-        sink.put(piece)?;
-    }
-    Ok(())
+fn assert_holds(rt: &impl Abort, got: Option<&[u8]>, want: Option<&str>) {
+    assert_eq!(rt; got, want.map(|text| text.as_bytes()));
 }
 
-fn reads_from_each_place<S: Shelf>(rt: &impl Abort, shelf: &mut S) -> Result<(), OutFault> {
+#[test]
+fn a_file_is_read_from_each_place(rt: HostRuntime) -> Result<(), Fail> {
+    let mut shelf = SureShelf::new(rt.alloc());
+    shelf.with_file("stages", b"laptop")?;
     let mut buf = [0; 4];
     for (at, want) in [(0, "lapt"), (4, "op"), (5, "p"), (6, ""), (9, "")] {
         let count = shelf.fetch("stages", at, &mut buf)?;
@@ -44,55 +54,56 @@ fn reads_from_each_place<S: Shelf>(rt: &impl Abort, shelf: &mut S) -> Result<(),
 }
 
 #[test]
-fn a_file_is_read_from_each_place(rt: HostRuntime) -> Result<(), Fail> {
-    let mut sure = SureShelf::new(rt.alloc());
-    sure.with_file("stages", b"laptop")?;
-    reads_from_each_place(&rt, &mut sure)?;
-    let mut failing = MemShelf::new(rt.alloc(), Vec::new(rt.alloc()));
-    failing.with_file("stages", b"laptop")?;
-    reads_from_each_place(&rt, &mut failing)?;
-    Ok(())
-}
-
-#[test]
 fn pieces_follow_one_another_and_other_files_stay(rt: HostRuntime) -> Result<(), Fail> {
-    let mut sure = SureShelf::new(rt.alloc());
-    sure.with_file("stages", b"laptop")?;
-    sure.with_file("plan", b"an old plan")?;
-    write_pieces(&mut sure, "plan", &[b"inbound", b"", b",outbound"])?;
-    assert_eq!(rt; sure.bytes_of("plan"), Some(b"inbound,outbound".as_slice()));
-    assert_eq!(rt; sure.bytes_of("stages"), Some(b"laptop".as_slice()));
-
-    let mut failing = MemShelf::new(rt.alloc(), Vec::new(rt.alloc()));
-    failing.with_file("stages", b"laptop")?;
-    write_pieces(&mut failing, "plan", &[b"inbound", b",outbound"])?;
-    assert_eq!(rt;
-        read_whole(rt.alloc(), &mut failing, "plan")?.as_slice(),
-        b"inbound,outbound".as_slice()
-    );
-    assert_eq!(rt; failing.bytes_of("stages"), Some(b"laptop".as_slice()));
+    let mut shelf = SureShelf::new(rt.alloc());
+    shelf.with_file("stages", b"laptop")?;
+    shelf.with_file("plan", b"an old plan")?;
+    write_plan(&mut shelf, "plan")?;
+    assert_holds(&rt, shelf.bytes_of("plan"), Some("inbound,outbound"));
+    assert_holds(&rt, shelf.bytes_of("stages"), Some("laptop"));
     Ok(())
 }
 
 #[test]
 fn a_missing_name_reads_as_empty_and_an_append_makes_it(rt: HostRuntime) -> Result<(), Fail> {
     let mut shelf = SureShelf::new(rt.alloc());
-    assert_eq!(rt; shelf.bytes_of("cert"), None);
-    assert_eq!(rt; read_whole(rt.alloc(), &mut shelf, "cert")?.len(), 0);
-    assert_eq!(rt; shelf.bytes_of("cert"), None);
+    assert_reads(&rt, &mut shelf, "cert", "")?;
+    assert_holds(&rt, shelf.bytes_of("cert"), None);
     shelf.append("cert", b"head")?;
-    assert_eq!(rt; shelf.bytes_of("cert"), Some(b"head".as_slice()));
+    assert_holds(&rt, shelf.bytes_of("cert"), Some("head"));
     Ok(())
+}
+
+#[test]
+fn a_shelf_without_listed_calls_is_written_and_read(rt: HostRuntime) -> Result<(), Fail> {
+    let mut shelf = MemShelf::new(rt.alloc(), Vec::new(rt.alloc()));
+    shelf.with_file("stages", b"laptop")?;
+    write_plan(&mut shelf, "plan")?;
+    assert_reads(&rt, &mut shelf, "plan", "inbound,outbound")?;
+    assert_holds(&rt, shelf.bytes_of("stages"), Some("laptop"));
+    Ok(())
+}
+
+fn put_cost<K: Sink>(sink: &mut K) -> Result<(), OutFault> {
+    sink.put(b"cost,")?;
+    sink.put(b"")?;
+    sink.put(b"12\n")
 }
 
 #[test]
 fn what_was_put_is_written(rt: HostRuntime) -> Result<(), Fail> {
     let mut sure = SureSink::new(rt.alloc());
-    put_pieces(&mut sure, &[b"cost,", b"", b"12\n"])?;
-    assert_eq!(rt; sure.written(), b"cost,12\n".as_slice());
+    put_cost(&mut sure)?;
+    assert_holds(&rt, Some(sure.written()), Some("cost,12\n"));
     let mut failing = MemSink::new(rt.alloc(), Vec::new(rt.alloc()));
-    put_pieces(&mut failing, &[b"cost,", b"", b"12\n"])?;
-    assert_eq!(rt; failing.written(), b"cost,12\n".as_slice());
+    put_cost(&mut failing)?;
+    assert_holds(&rt, Some(failing.written()), Some("cost,12\n"));
+    Ok(())
+}
+
+#[test]
+fn standard_output_takes_a_line(rt: HostRuntime) -> Result<(), Fail> {
+    put_cost(&mut StdSink::new(&rt))?;
     Ok(())
 }
 
@@ -110,27 +121,12 @@ fn scratch_name(rt: &HostRuntime) -> Result<String, Fail> {
 fn real_files_are_made_written_and_read(rt: HostRuntime) -> Result<(), Fail> {
     let name = scratch_name(&rt)?;
     let mut shelf = FileShelf::new(&rt);
-    write_pieces(&mut shelf, name.as_str(), &[b"in", b"bound"])?;
-    assert_eq!(rt;
-        read_whole(rt.alloc(), &mut shelf, name.as_str())?.as_slice(),
-        b"inbound".as_slice()
-    );
-    shelf.create(name.as_str())?;
-    assert_eq!(rt; read_whole(rt.alloc(), &mut shelf, name.as_str())?.len(), 0);
+    write_plan(&mut shelf, name.as_str())?;
+    assert_reads(&rt, &mut shelf, name.as_str(), "inbound,outbound")?;
+    write_plan(&mut shelf, name.as_str())?;
+    assert_reads(&rt, &mut shelf, name.as_str(), "inbound,outbound")?;
     fs::remove_file(&rt, name.as_str())?;
-    let mut buf = [0; 4];
-    assert_eq!(rt;
-        shelf.fetch(name.as_str(), 0, &mut buf),
-        Err(OutFault::Failed)
-    );
-    shelf.append(name.as_str(), b"made")?;
-    assert_eq!(rt; shelf.fetch(name.as_str(), 1, &mut buf), Ok(3));
-    fs::remove_file(&rt, name.as_str())?;
-    Ok(())
-}
-
-#[test]
-fn standard_output_takes_a_line(rt: HostRuntime) -> Result<(), Fail> {
-    put_pieces(&mut StdSink::new(&rt), &[b"", b"one line\n"])?;
+    let missing = shelf.fetch(name.as_str(), 0, &mut [0; 4]);
+    assert_eq!(rt; missing, Err(OutFault::Failed));
     Ok(())
 }
