@@ -8,7 +8,8 @@ use Rattle.std.specs.Str.{bytes_eq}
 use Rattle.stage_file.specs.declared.stages.StageRow.{StageRow}
 use Rattle.stage_file.specs.Arcs.{names_of}
 
-unequal : (a b : List ℕ) (same : Bool) → bytes_eq a b ≡ same → a ≢ b → same ≡ false
+-- the test of two names that differ
+pub unequal : (a b : List ℕ) (same : Bool) → bytes_eq a b ≡ same → a ≢ b → same ≡ false
 unequal a b true e apart = absurd (apart ((bytes_eq-Decides a b).0 e))
 unequal a b false e apart = refl
 

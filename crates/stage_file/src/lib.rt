@@ -30,3 +30,6 @@ pub use raw::{Files, RawNet, raw_net};
 pub use rows::{Row, Rows, Text, rows_of};
 pub use stages::{Bound, StageRow, read_stages};
 pub use tables::{TableRow, read_tables};
+
+#[cfg(test)]
+mod tests_arcs;

@@ -16,11 +16,10 @@ use crate::place::{fails_if, text_fault};
 use crate::record::{Record, below_header, field_in, records_of};
 use crate::rules::{FIELD_COUNT, NUMBER, PLAN_MISSING, PLAN_STAGE, RANGE};
 use crate::stage_names::names_of;
+use crate::stage_rules::TIME;
 use crate::{FileFault, FileKind, Names, ReadFault, Rows, StageRow, Text};
-use service_model::{List, MAX_TIME, Plan};
+use service_model::{List, Plan};
 use std::alloc::Global;
-
-const TIME: u64 = MAX_TIME as u64;
 
 /// The times of a stage in a plan.
 #[derive(Clone, Copy)]
