@@ -32,4 +32,6 @@ pub use stages::{Bound, StageRow, read_stages};
 pub use tables::{TableRow, read_tables};
 
 #[cfg(test)]
+mod tests;
+#[cfg(test)]
 mod tests_arcs;
