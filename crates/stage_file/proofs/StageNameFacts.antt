@@ -21,4 +21,3 @@ name_new stages k s distinct within at =
     let there : get_or (names_of (take k stages)) i d ≡ (get_or stages i s).name = get_or-map (λ (t : StageRow). t.name) (take k stages) i s d (omega (arith, length-take k stages)) ∙ rw (get_or-take k stages i s here) refl in
     let apart : s.name ≢ get_or (names_of (take k stages)) i d = λ same. distinct i k s here within (rw at (sym there ∙ sym same)) in
     unequal s.name (get_or (names_of (take k stages)) i d) (bytes_eq s.name (get_or (names_of (take k stages)) i d)) refl apart)
-

@@ -25,7 +25,7 @@ use Rattle.stage_file.specs.Names.{AreDistinct}
 use Rattle.stage_file.specs.Stages.{is_name_of}
 use Rattle.stage_file.specs.Arcs.{place_of, is_no_stage}
 use Rattle.stage_file.specs.PlanRecords.{lacks_stage, time_for, plan_of, plan_fault_at, plan_file_fault}
-use Rattle.stage_file.specs.PlanTimes.{times_in, times_for, all_times, has_times, put_at, inbound_of, outbound_of, plan_with}
+use Rattle.stage_file.specs.PlanTimes.{times_in, times_for, all_times, is_refused, put_at, inbound_of, outbound_of, plan_with}
 use Rattle.stage_file.proofs.EndFacts.{name_at}
 use Rattle.stage_file.proofs.StageNameFacts.{unequal}
 
@@ -52,7 +52,7 @@ lacks_seen (name ∷ names) records =
     rw (here, lacks_seen names records) refl
 
 refused_at : (names : List (List ℕ)) (name : List ℕ) (earlier : List Numbered) (place : Option ℕ) → place_of names name ≡ place
-    → (is_none place || list_any (is_name_of name) earlier) ≡ has_times place (all_times names earlier)
+    → (is_none place || list_any (is_name_of name) earlier) ≡ is_refused place (all_times names earlier)
 refused_at names name earlier None at = refl
 refused_at names name earlier (Some k) at =
     let within : k < length names = (position-Some (bytes_eq name) names k [] at).0 in
@@ -61,7 +61,7 @@ refused_at names name earlier (Some k) at =
 
 -- the name is no stage's, or an earlier record has it
 pub refused_seen : (names : List (List ℕ)) (name : List ℕ) (earlier : List Numbered) (times : List (Option Times)) → times ≡ all_times names earlier
-    → (is_no_stage names name || list_any (is_name_of name) earlier) ≡ has_times (place_of names name) times
+    → (is_no_stage names name || list_any (is_name_of name) earlier) ≡ is_refused (place_of names name) times
 unfolding is_no_stage
 refused_seen names name earlier times same = rw same (refused_at names name earlier (place_of names name) refl)
 
@@ -108,12 +108,12 @@ put_here names earlier r k i d distinct at new within =
     let last : k < length names = (position-Some (bytes_eq (field_in r.fields 1)) names k [] at).0 in
     let name = name_at names (field_in r.fields 1) k at in
     rw (get_or-map (times_for (earlier ++ r ∷ [])) names i [] d within) (
-      elim (cases_eq i k) [
-        | inl here ↦ (let fresh : list_any (is_name_of (get_or names k [])) earlier ≡ false = rw (← name) new in
-      rw (here, get_or-set_same (all_times names earlier) k (Some (times_in r.fields)) d (omega (arith, length-map names (times_for earlier)))) (sym (own_name earlier r (get_or names k []) (same_name names r k at) fresh)))
-        | inr other ↦ rw (get_or-set_other (all_times names earlier) k i (Some (times_in r.fields)) d other, get_or-map (times_for earlier) names i [] d within)
-      (sym (other_name earlier r (get_or names i []) (differs names r i k distinct at within other)))
-      ]
+    elim (cases_eq i k) [
+      | inl here ↦ (let fresh : list_any (is_name_of (get_or names k [])) earlier ≡ false = rw (← name) new in
+          rw (here, get_or-set_same (all_times names earlier) k (Some (times_in r.fields)) d (omega (arith, length-map names (times_for earlier)))) (sym (own_name earlier r (get_or names k []) (same_name names r k at) fresh)))
+      | inr other ↦ rw (get_or-set_other (all_times names earlier) k i (Some (times_in r.fields)) d other, get_or-map (times_for earlier) names i [] d within)
+          (sym (other_name earlier r (get_or names i []) (differs names r i k distinct at within other)))
+    ]
     )
 
 put_places : (names : List (List ℕ)) (earlier : List Numbered) (r : Numbered) (place : Option ℕ) → AreDistinct names → place_of names (field_in r.fields 1) ≡ place

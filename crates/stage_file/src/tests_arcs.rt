@@ -193,7 +193,10 @@ fn the_three_files_are_read_in_turn(rt: HostRuntime) -> Result<(), Fail> {
     let stages = b"stage\nA,3,,,,a,1\nB,2,,,0,b,1\n";
     let tables = b"table\na,0,2,3,4\nb,0,5,7,9,10,12\n";
     let raw = net(rt.alloc(), stages, tables, b"supplier\nA,B\n")?;
-    assert_eq!(rt; (raw.horizon, raw.stages.len(), raw.tables.len()), (5, 2, 2));
+    assert_eq!(rt;
+        (raw.horizon, raw.stages.len(), raw.tables.len()),
+        (5, 2, 2)
+    );
     assert_eq!(rt; raw.arcs.len(), 1);
     let arc = raw.arcs.get(0);
     assert_eq!(rt; (arc.supplier, arc.customer, arc.quantity), (0, 1, 1));
