@@ -12,15 +12,18 @@ const STAGES: &[u8] = b"stage,lead,supply,least,most,bound,unit\n";
 
 const TABLES: &[u8] = b"table,x\n";
 
+// Records, with the record, the rule and the column of their refusal.
+type Case = (&'static [u8], u32, u8, u32);
+
 // No file here is longer.
-const MOST_BYTES: usize = 1_000_000;
+const LONGEST: usize = 1_000_000;
 
 fn rows_below(alloc: Global, header: &[u8], records: &[u8]) -> Result<Rows, NoMemory>
     ensures { IfOk result AreCountable }
 {
     let mut file = Vec::from_slice(alloc, header)?;
     file.extend_from_slice(records)?;
-    if file.len() > MOST_BYTES {
+    if file.len() > LONGEST {
         return Err(NoMemory);
     }
     rows_of(alloc, &file)
@@ -76,75 +79,84 @@ fn the_usual_producer_is_read(rt: HostRuntime) -> Result<(), Fail> {
     Ok(())
 }
 
+const STAGE_CASES: [Case; 22] = [
+    (b"\xFF,5,,,2,t,1\n", 2, NOT_TEXT, 1),
+    (b"A,5,,,2,t\n", 2, FIELD_COUNT, 0),
+    (b"A,5,,,2,t,  \n", 2, FIELD_COUNT, 0),
+    (b"A,5,,,2,t,1,1\n", 2, FIELD_COUNT, 0),
+    (b",5,,,2,t,1\n", 2, NAME, 1),
+    (b"A,5.0,,,2,t,1\n", 2, NUMBER, 2),
+    (b"A,,,,2,t,1\n", 2, NUMBER, 2),
+    (b"A,5,,,2,t,-1\n", 2, NUMBER, 7),
+    (b"A,1001,,,2,t,1\n", 2, RANGE, 2),
+    (b"A,5,,,2,t,1000001\n", 2, RANGE, 7),
+    (b"", 0, NO_STAGES, 0),
+    (b"A,5,,,2,t,1\nA,5,,,2,t,1\n", 3, TWICE, 1),
+    (b"A,5,,3,2,t,1\n", 2, LIMITS, 4),
+    (b"A,5,11,,2,t,1\n", 2, PAST_HORIZON, 3),
+    (b"A,5,,11,,t,1\n", 2, PAST_HORIZON, 4),
+    (b"A,5,,,2,normal:x,1\n", 2, BOUND, 6),
+    (b"A,5,,,2,normal:1000000001,1\n", 2, BOUND, 6),
+    // A later rule in an earlier record comes first,
+    (b"A,5,,,2,normal:x,1\n\xFF,5,,,2,t,1\n", 2, BOUND, 6),
+    // an earlier rule in the same record,
+    (b"A,5,,,2,t,1\nA,5,,3,2,t,1\n", 3, TWICE, 1),
+    (b"A,1001,,x,2,t,1\n", 2, NUMBER, 4),
+    // and an earlier column of the same rule.
+    (b"A,5,x,y,2,t,1\n", 2, NUMBER, 3),
+    // A record that is passed over keeps its number.
+    (b" , \nA,5.0,,,2,t,1\n", 3, NUMBER, 2),
+];
+
 #[test]
 fn each_rule_on_a_stage_file_is_refused_at_its_place(rt: HostRuntime) -> Result<(), Fail> {
-    let cases: [(&[u8], u32, u8, u32); 22] = [
-        (b"\xFF,5,,,2,t,1\n", 2, NOT_TEXT, 1),
-        (b"A,5,,,2,t\n", 2, FIELD_COUNT, 0),
-        (b"A,5,,,2,t,  \n", 2, FIELD_COUNT, 0),
-        (b"A,5,,,2,t,1,1\n", 2, FIELD_COUNT, 0),
-        (b",5,,,2,t,1\n", 2, NAME, 1),
-        (b"A,5.0,,,2,t,1\n", 2, NUMBER, 2),
-        (b"A,,,,2,t,1\n", 2, NUMBER, 2),
-        (b"A,5,,,2,t,-1\n", 2, NUMBER, 7),
-        (b"A,1001,,,2,t,1\n", 2, RANGE, 2),
-        (b"A,5,,,2,t,1000001\n", 2, RANGE, 7),
-        (b"", 0, NO_STAGES, 0),
-        (b"A,5,,,2,t,1\nA,5,,,2,t,1\n", 3, TWICE, 1),
-        (b"A,5,,3,2,t,1\n", 2, LIMITS, 4),
-        (b"A,5,11,,2,t,1\n", 2, PAST_HORIZON, 3),
-        (b"A,5,,11,,t,1\n", 2, PAST_HORIZON, 4),
-        (b"A,5,,,2,normal:x,1\n", 2, BOUND, 6),
-        (b"A,5,,,2,normal:1000000001,1\n", 2, BOUND, 6),
-        // A later rule in an earlier record comes first,
-        (b"A,5,,,2,normal:x,1\n\xFF,5,,,2,t,1\n", 2, BOUND, 6),
-        // an earlier rule in the same record,
-        (b"A,5,,,2,t,1\nA,5,,3,2,t,1\n", 3, TWICE, 1),
-        (b"A,1001,,x,2,t,1\n", 2, NUMBER, 4),
-        // and an earlier column of the same rule.
-        (b"A,5,x,y,2,t,1\n", 2, NUMBER, 3),
-        // A record that is passed over keeps its number.
-        (b" , \nA,5.0,,,2,t,1\n", 3, NUMBER, 2),
-    ];
-    for (records, row, rule, column) in cases {
+    for (records, row, rule, column) in STAGE_CASES {
         let read = stages_of(rt.alloc(), STAGES, records, 10)?;
         assert_eq!(rt;
             read.err(),
             refusal(FileKind::Stages, row, rule, column),
-            "F{rule} at {row}, {column}"
+            "F{rule} at {row} and {column}"
         );
     }
     Ok(())
 }
 
+const TABLE_CASES: [Case; 14] = [
+    (b"t,\xC3\n", 2, NOT_TEXT, 2),
+    (b"t\n", 2, FIELD_COUNT, 0),
+    (b"t, \n", 2, FIELD_COUNT, 0),
+    (b",1\n", 2, NAME, 1),
+    (b"t,1,x\n", 2, NUMBER, 3),
+    (b"t,1, ,2\n", 2, NUMBER, 3),
+    (b"t,1,1000000001\n", 2, RANGE, 3),
+    (b"t,1\nt,1\n", 3, TWICE, 1),
+    (b"t,0,10,14,17,20,22\nsum,1\n", 3, TABLE_NAME, 1),
+    (b"pool,1\n", 2, TABLE_NAME, 1),
+    (b"normal:,1\n", 2, TABLE_NAME, 1),
+    (b"sum,1\nt,x\n", 2, TABLE_NAME, 1),
+    (b"t,1000000001,x\n", 2, NUMBER, 3),
+    (b"t,1000000001,1000000001\n", 2, RANGE, 2),
+];
+
 #[test]
 fn each_rule_on_a_table_file_is_refused_at_its_place(rt: HostRuntime) -> Result<(), Fail> {
-    let cases: [(&[u8], u32, u8, u32); 14] = [
-        (b"t,\xC3\n", 2, NOT_TEXT, 2),
-        (b"t\n", 2, FIELD_COUNT, 0),
-        (b"t, \n", 2, FIELD_COUNT, 0),
-        (b",1\n", 2, NAME, 1),
-        (b"t,1,x\n", 2, NUMBER, 3),
-        (b"t,1, ,2\n", 2, NUMBER, 3),
-        (b"t,1,1000000001\n", 2, RANGE, 3),
-        (b"t,1\nt,1\n", 3, TWICE, 1),
-        (b"t,0,10,14,17,20,22\nsum,1\n", 3, TABLE_NAME, 1),
-        (b"pool,1\n", 2, TABLE_NAME, 1),
-        (b"normal:,1\n", 2, TABLE_NAME, 1),
-        (b"sum,1\nt,x\n", 2, TABLE_NAME, 1),
-        (b"t,1000000001,x\n", 2, NUMBER, 3),
-        (b"t,1000000001,1000000001\n", 2, RANGE, 2),
-    ];
-    for (records, row, rule, column) in cases {
+    for (records, row, rule, column) in TABLE_CASES {
         let read = tables_of(rt.alloc(), TABLES, records)?;
         assert_eq!(rt;
             read.err(),
             refusal(FileKind::Tables, row, rule, column),
-            "F{rule} at {row}, {column}"
+            "F{rule} at {row} and {column}"
         );
     }
     Ok(())
 }
+
+const HEADER_CASES: [Case; 4] = [
+    (b"stages\n", 1, HEADER, 1),
+    (b" \n stage\n", 2, HEADER, 1),
+    (b"stage,lead,\xFF\n", 1, NOT_TEXT, 3),
+    (b"", 1, HEADER, 1),
+];
 
 #[test]
 fn a_header_is_the_word_in_either_case(rt: HostRuntime) -> Result<(), Fail> {
@@ -153,18 +165,12 @@ fn a_header_is_the_word_in_either_case(rt: HostRuntime) -> Result<(), Fail> {
     assert!(rt; stages_of(rt.alloc(), b" , \nstage\n", plain, 10)?.is_ok());
     assert!(rt; tables_of(rt.alloc(), b"", b"")?.is_ok());
 
-    let cases: [(&[u8], u32, u8, u32); 4] = [
-        (b"stages\n", 1, HEADER, 1),
-        (b" \n stage\n", 2, HEADER, 1),
-        (b"stage,lead,\xFF\n", 1, NOT_TEXT, 3),
-        (b"", 1, HEADER, 1),
-    ];
-    for (header, row, rule, column) in cases {
+    for (header, row, rule, column) in HEADER_CASES {
         let read = stages_of(rt.alloc(), header, plain, 10)?;
         assert_eq!(rt;
             read.err(),
             refusal(FileKind::Stages, row, rule, column),
-            "F{rule} at {row}, {column}"
+            "F{rule} at {row} and {column}"
         );
     }
     Ok(())
