@@ -1,8 +1,6 @@
 -- Arc records on which the rules hold, and the names of stages.
-use Rattle.std.proofs.Common.{◌≡◌, ◌≢◌, ℕ, ◌<◌, Bool, true, false, leb, List, length, take, get_or, None, Some, AllPairs, refl, sym, ◌∙◌, arith}
-use Rattle.std.proofs.lemmas.List.{length-map, length-take, get_or-map, get_or-take, take-map}
-use Rattle.std.proofs.lemmas.List.Folds.{list_any_none}
-use Rattle.std.proofs.lemmas.Slice.Eq.{bytes_eq-Decides}
+use Rattle.std.proofs.Common.{◌≡◌, ℕ, ◌<◌, false, leb, List, length, take, get_or, None, Some, refl, sym, ◌∙◌}
+use Rattle.std.proofs.lemmas.List.{take-map}
 use Rattle.std.specs.List.{list_any}
 use Rattle.std.specs.Str.{bytes_eq}
 use Rattle.service_model.specs.Search.{first_of}
@@ -11,10 +9,9 @@ use Rattle.stage_file.specs.declared.ends.Ends.{Ends}
 use Rattle.stage_file.specs.declared.fault.FileKind.TheVariants.{Arcs}
 use Rattle.stage_file.specs.declared.record.Record.{Record}
 use Rattle.stage_file.specs.declared.rules.TheConstants.{TOO_MANY, SUPPLIER, CUSTOMER, SELF_ARC, ARC_TWICE}
-use Rattle.stage_file.specs.declared.stages.StageRow.{StageRow}
 use Rattle.stage_file.specs.Records.{Numbered, field_in}
 use Rattle.stage_file.specs.Seen.{seen_as, all_seen}
-use Rattle.stage_file.specs.Arcs.{names_of, place_of, is_no_stage, has_ends, arc_rules, arc_fault_at, arc_row_of}
+use Rattle.stage_file.specs.Arcs.{place_of, is_no_stage, has_ends, arc_rules, arc_fault_at, arc_row_of}
 use Rattle.stage_file.specs.Ends.{has_same_ends, ends_in, ends_of, is_among, HaveEnds}
 use Rattle.stage_file.proofs.EndFacts.{joined_found, twice_seen}
 use Rattle.stage_file.proofs.FaultFacts.{first_of_none}

@@ -8,7 +8,8 @@ use Rattle.std.specs.Str.{bytes_eq}
 use Rattle.stage_file.specs.declared.stages.StageRow.{StageRow}
 use Rattle.stage_file.specs.Arcs.{names_of}
 
-unequal : (a b : List ℕ) (same : Bool) → bytes_eq a b ≡ same → a ≢ b → same ≡ false
+-- the test of two names that differ
+pub unequal : (a b : List ℕ) (same : Bool) → bytes_eq a b ≡ same → a ≢ b → same ≡ false
 unequal a b true e apart = absurd (apart ((bytes_eq-Decides a b).0 e))
 unequal a b false e apart = refl
 
@@ -20,4 +21,3 @@ name_new stages k s distinct within at =
     let there : get_or (names_of (take k stages)) i d ≡ (get_or stages i s).name = get_or-map (λ (t : StageRow). t.name) (take k stages) i s d (omega (arith, length-take k stages)) ∙ rw (get_or-take k stages i s here) refl in
     let apart : s.name ≢ get_or (names_of (take k stages)) i d = λ same. distinct i k s here within (rw at (sym there ∙ sym same)) in
     unequal s.name (get_or (names_of (take k stages)) i d) (bytes_eq s.name (get_or (names_of (take k stages)) i d)) refl apart)
-

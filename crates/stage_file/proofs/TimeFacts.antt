@@ -25,8 +25,9 @@ use Rattle.stage_file.specs.Names.{AreDistinct}
 use Rattle.stage_file.specs.Stages.{is_name_of}
 use Rattle.stage_file.specs.Arcs.{place_of, is_no_stage}
 use Rattle.stage_file.specs.PlanRecords.{lacks_stage, time_for, plan_of, plan_fault_at, plan_file_fault}
-use Rattle.stage_file.specs.PlanTimes.{times_in, times_for, all_times, has_times, put_at, inbound_of, outbound_of, plan_with}
+use Rattle.stage_file.specs.PlanTimes.{times_in, times_for, all_times, is_refused, put_at, inbound_of, outbound_of, plan_with}
 use Rattle.stage_file.proofs.EndFacts.{name_at}
+use Rattle.stage_file.proofs.StageNameFacts.{unequal}
 
 -- ---- a stage has times where a record has its name
 
@@ -51,7 +52,7 @@ lacks_seen (name ∷ names) records =
     rw (here, lacks_seen names records) refl
 
 refused_at : (names : List (List ℕ)) (name : List ℕ) (earlier : List Numbered) (place : Option ℕ) → place_of names name ≡ place
-    → (is_none place || list_any (is_name_of name) earlier) ≡ has_times place (all_times names earlier)
+    → (is_none place || list_any (is_name_of name) earlier) ≡ is_refused place (all_times names earlier)
 refused_at names name earlier None at = refl
 refused_at names name earlier (Some k) at =
     let within : k < length names = (position-Some (bytes_eq name) names k [] at).0 in
@@ -60,7 +61,7 @@ refused_at names name earlier (Some k) at =
 
 -- the name is no stage's, or an earlier record has it
 pub refused_seen : (names : List (List ℕ)) (name : List ℕ) (earlier : List Numbered) (times : List (Option Times)) → times ≡ all_times names earlier
-    → (is_no_stage names name || list_any (is_name_of name) earlier) ≡ has_times (place_of names name) times
+    → (is_no_stage names name || list_any (is_name_of name) earlier) ≡ is_refused (place_of names name) times
 unfolding is_no_stage
 refused_seen names name earlier times same = rw same (refused_at names name earlier (place_of names name) refl)
 
@@ -88,10 +89,6 @@ same_name : (names : List (List ℕ)) (r : Numbered) (k : ℕ) → place_of name
 unfolding is_name_of
 same_name names r k at = (bytes_eq-Decides (get_or names k []) (field_in r.fields 1)).1 (sym (name_at names (field_in r.fields 1) k at))
 
-apart : (a b : List ℕ) (same : Bool) → bytes_eq a b ≡ same → a ≢ b → same ≡ false
-apart a b true e differ = absurd (differ ((bytes_eq-Decides a b).0 e))
-apart a b false e differ = refl
-
 two_places : (names : List (List ℕ)) (i j : ℕ) → AreDistinct names → i < length names → j < length names → i ≢ j → get_or names i [] ≢ get_or names j []
 two_places names i j distinct first second differ same =
     elim (cases_lt i j) [ inl less ↦ distinct i j [] less second same | inr more ↦ distinct j i [] (omega arith) first (sym same) ]
@@ -102,7 +99,7 @@ differs names r i k distinct at within differ =
     let name = field_in r.fields 1 in
     let last : k < length names = (position-Some (bytes_eq name) names k [] at).0 in
     let names_differ : get_or names i [] ≢ name = λ same. two_places names i k distinct within last differ (same ∙ name_at names name k at) in
-    apart (get_or names i []) name (bytes_eq (get_or names i []) name) refl names_differ
+    unequal (get_or names i []) name (bytes_eq (get_or names i []) name) refl names_differ
 
 put_here : (names : List (List ℕ)) (earlier : List Numbered) (r : Numbered) (k i : ℕ) (d : Option Times) → AreDistinct names → place_of names (field_in r.fields 1) ≡ Some k
     → list_any (is_name_of (field_in r.fields 1)) earlier ≡ false → i < length names
@@ -111,12 +108,12 @@ put_here names earlier r k i d distinct at new within =
     let last : k < length names = (position-Some (bytes_eq (field_in r.fields 1)) names k [] at).0 in
     let name = name_at names (field_in r.fields 1) k at in
     rw (get_or-map (times_for (earlier ++ r ∷ [])) names i [] d within) (
-      elim (cases_eq i k) [
-        | inl here ↦ (let fresh : list_any (is_name_of (get_or names k [])) earlier ≡ false = rw (← name) new in
-      rw (here, get_or-set_same (all_times names earlier) k (Some (times_in r.fields)) d (omega (arith, length-map names (times_for earlier)))) (sym (own_name earlier r (get_or names k []) (same_name names r k at) fresh)))
-        | inr other ↦ rw (get_or-set_other (all_times names earlier) k i (Some (times_in r.fields)) d other, get_or-map (times_for earlier) names i [] d within)
-      (sym (other_name earlier r (get_or names i []) (differs names r i k distinct at within other)))
-      ]
+    elim (cases_eq i k) [
+      | inl here ↦ (let fresh : list_any (is_name_of (get_or names k [])) earlier ≡ false = rw (← name) new in
+          rw (here, get_or-set_same (all_times names earlier) k (Some (times_in r.fields)) d (omega (arith, length-map names (times_for earlier)))) (sym (own_name earlier r (get_or names k []) (same_name names r k at) fresh)))
+      | inr other ↦ rw (get_or-set_other (all_times names earlier) k i (Some (times_in r.fields)) d other, get_or-map (times_for earlier) names i [] d within)
+          (sym (other_name earlier r (get_or names i []) (differs names r i k distinct at within other)))
+    ]
     )
 
 put_places : (names : List (List ℕ)) (earlier : List Numbered) (r : Numbered) (place : Option ℕ) → AreDistinct names → place_of names (field_in r.fields 1) ≡ place

@@ -7,7 +7,6 @@ use Rattle.stage_file.specs.declared.plans.Times.{Times}
 use Rattle.stage_file.specs.Records.{Numbered, field_in}
 use Rattle.stage_file.specs.Fields.{number_or}
 use Rattle.stage_file.specs.Stages.{is_name_of}
-use Rattle.stage_file.specs.Arcs.{place_of}
 
 -- the times in a record's second and third field
 unfoldable pub times_in : List (List ℕ) → Times
@@ -21,10 +20,10 @@ times_for records name = option_map (λ r. times_in r.fields) (find (is_name_of 
 abbrev pub all_times : List (List ℕ) → List Numbered → List (Option Times)
 all_times names records = map (times_for records) names
 
--- there is no stage, or it has times
-abbrev pub has_times : Option ℕ → List (Option Times) → Bool
-has_times None times = true
-has_times (Some stage) times = is_some (slice_index_or times stage None)
+-- there is no stage, or it has times already
+abbrev pub is_refused : Option ℕ → List (Option Times) → Bool
+is_refused None times = true
+is_refused (Some stage) times = is_some (slice_index_or times stage None)
 
 -- the times with those of a stage put, if there is one
 abbrev pub put_at : Option ℕ → Times → List (Option Times) → List (Option Times)

@@ -11,7 +11,7 @@ use crate::ends::{AllEnds, Ends, ends_in};
 use crate::field::{is_misread, is_past, number_or};
 use crate::header::header_fault;
 use crate::limits::MAX_QUANTITY;
-use crate::place::{fails_if, text_fault};
+use crate::place::{fails_if, is_full, text_fault};
 use crate::record::{Record, below_header, field_in, records_of};
 use crate::rules::{ARC_TWICE, CUSTOMER, FIELD_COUNT, NUMBER, RANGE, SELF_ARC, SUPPLIER, TOO_MANY};
 use crate::stage_names::{is_no_stage, names_of};
@@ -146,13 +146,13 @@ fn end_fault(
     ensures { result ≡ first_of (arc_end_rules names.now (all_seen earlier.now) (seen_as «record».now)) }
 {
     let number = record.number;
-    let arcs = earlier.len();
+    let full = is_full(earlier, MAX_ARCS);
     let supplier = field_in(record.fields, 1);
     let customer = field_in(record.fields, 2);
     let no_supplier = is_no_stage(names, supplier);
     let no_customer = is_no_stage(names, customer);
     let twice = is_among(ends_in(names, record.fields), ends);
-    fails(number, TOO_MANY, 0, arcs >= MAX_ARCS)
+    fails(number, TOO_MANY, 0, full)
         .or_else(|| fails(number, SUPPLIER, 1, no_supplier))
         .or_else(|| fails(number, CUSTOMER, 2, no_customer))
         .or_else(|| fails(number, SELF_ARC, 2, supplier == customer))

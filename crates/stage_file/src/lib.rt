@@ -33,3 +33,5 @@ pub use tables::{TableRow, read_tables};
 
 #[cfg(test)]
 mod tests;
+#[cfg(test)]
+mod tests_arcs;

@@ -6,7 +6,7 @@ ghost use Rattle.stage_file.specs.Records.{AreCountable, field_in};
 ghost use Rattle.stage_file.specs.Seen.{seen_as, all_seen, AreShort};
 ghost use Rattle.stage_file.specs.Arcs.{place_of, names_of};
 ghost use Rattle.stage_file.specs.PlanRecords.{plan_rules, plan_fault_at, plan_file_fault, plan_of};
-ghost use Rattle.stage_file.specs.PlanTimes.{times_in, all_times, has_times, put_at, plan_with};
+ghost use Rattle.stage_file.specs.PlanTimes.{times_in, all_times, is_refused, put_at, plan_with};
 ghost use Rattle.stage_file.specs.Names.{name_in};
 ghost use Rattle.stage_file.specs.Faults.{fails_if, Reads};
 
@@ -16,11 +16,10 @@ use crate::place::{fails_if, text_fault};
 use crate::record::{Record, below_header, field_in, records_of};
 use crate::rules::{FIELD_COUNT, NUMBER, PLAN_MISSING, PLAN_STAGE, RANGE};
 use crate::stage_names::names_of;
+use crate::stage_rules::TIME;
 use crate::{FileFault, FileKind, Names, ReadFault, Rows, StageRow, Text};
-use service_model::{List, MAX_TIME, Plan};
+use service_model::{List, Plan};
 use std::alloc::Global;
-
-const TIME: u64 = MAX_TIME as u64;
 
 /// The times of a stage in a plan.
 #[derive(Clone, Copy)]
@@ -86,7 +85,7 @@ fn plan_fault(
     let count = record.fields.len();
     let inbound = field_in(record.fields, 2);
     let outbound = field_in(record.fields, 3);
-    let refused = has_times(times, names, field_in(record.fields, 1));
+    let refused = is_refused(field_in(record.fields, 1), names, times);
     text_fault(FileKind::Plan, record)
         .or_else(|| fails(number, FIELD_COUNT, 0, count < 3))
         .or_else(|| fails(number, NUMBER, 2, is_no_number(TIME, inbound)))
@@ -102,10 +101,10 @@ fn fails(row: u32, rule: u8, column: u32, fails: bool) -> Option<FileFault>
     fails_if(FileKind::Plan, row, rule, column, fails)
 }
 
-// Whether the name is no stage's, or that stage has its times already.
-fn has_times(times: &List<Option<Times>>, names: &Names, name: &[u8]) -> bool
+// Whether the name is no stage's, or its stage has times already.
+fn is_refused(name: &[u8], names: &Names, times: &List<Option<Times>>) -> bool
     requires { length times.now ≡ length names.now }
-    ensures { result ≡ has_times (place_of names.now name.now) times.now }
+    ensures { result ≡ is_refused (place_of names.now name.now) times.now }
 {
     match names.place_of(name) {
         Some(stage) => times.get(stage).is_some(),

@@ -1,9 +1,8 @@
-use Rattle.std.proofs.Common.{◌≡◌, ◌<◌, true, false, None, Some, is_none, length, take, get_or, refl, sym, ap, ◌∙◌, arith}
+use Rattle.std.proofs.Common.{◌≡◌, ◌<◌, true, false, None, Some, is_none, length, take, get_or, refl, ◌∙◌, arith}
 use Rattle.std.proofs.lemmas.List.{map_more, take_more, take_all}
 use Rattle.std.proofs.lemmas.List.Folds.{list_any_at, list_any-append}
 use Rattle.std.specs.List.{list_any}
-use Rattle.service_model.specs.declared.plan.Plan.{Plan}
-use Rattle.stage_file.specs.PlanTimes.{inbound_of, outbound_of, plan_with}
+use Rattle.stage_file.specs.PlanTimes.{inbound_of, outbound_of}
 use Rattle.stage_file.proofs.PlanFacts.{complete, none_if}
 use Rattle.stage_file.proofs.plans.plan_with.Goals as goal
 

@@ -1,11 +1,8 @@
-use Rattle.std.proofs.Common.{◌≡◌, ◌<◌, ◌∷◌, ◌++◌, [], Some, None, ℕ, List, length, take, replicate, rules, refl, sym, ◌∙◌, arith}
-use Rattle.std.proofs.lemmas.List.{length-map, take_all}
+use Rattle.std.proofs.Common.{◌≡◌, ◌<◌, None, length, take, replicate, rules, refl, sym, ◌∙◌}
+use Rattle.std.proofs.lemmas.List.{length-map}
 use Rattle.std.proofs.lemmas.Simd.{splat_is_map}
-use Rattle.service_model.specs.Search.{first_below}
-use Rattle.stage_file.specs.Records.{field_in}
 use Rattle.stage_file.specs.Seen.{seen_as, all_seen}
 use Rattle.stage_file.specs.PlanRecords.{plan_fault_at}
-use Rattle.stage_file.specs.PlanTimes.{all_times}
 use Rattle.stage_file.proofs.FaultFacts.{first_below_found, first_below_step}
 use Rattle.stage_file.proofs.PlanFacts.{name_holds, plan_here, records_more}
 use Rattle.stage_file.proofs.TimeFacts.{times_more}
@@ -39,5 +36,5 @@ records-preserved c =
     record {
       faults = first_below_step (plan_fault_at names (all_seen records)) k before.faults ∙ plan_here names records k r c.records-test.true c.index-records-k.is ∙ sym c.in_default.ensures;
       times = rw (c.put_times.ensures, records_more records k r c.records-test.true c.index-records-k.is)
-      (times_more names (all_seen (take k records)) (seen_as r) c.records.times c.len.ensures.distinct before.times holds);
+          (times_more names (all_seen (take k records)) (seen_as r) c.records.times c.len.ensures.distinct before.times holds);
     }
