@@ -12,8 +12,7 @@ Held = map.FinMap (slice_cmp nat_cmp) (List ℕ)
 abbrev pub file_bytes : Held → List ℕ → List ℕ
 file_bytes held name = unwrap_or (map.get held name) []
 
--- bytes of a file from a place on stand at the front of a buffer: no more of them than fit and are left,
--- and at least one where one is left
+-- a fetch gave bytes from a place on: no more than fit and are left, and at least one where one is left
 pub record Fetched (file : List ℕ) (at : ℕ) (buffer : List ℕ) (count : ℕ) : Type 0 where
   pub fits : count ≤ length buffer
   pub bytes : take count buffer ≡ take count (drop at file)
@@ -32,11 +31,11 @@ with_bytes held name bytes = map.insert held name bytes
 abbrev pub with_piece : Held → List ℕ → List ℕ → Held
 with_piece held name piece = map.insert held name (file_bytes held name ++ piece)
 
--- the same where it is told: a name holds these bytes and no others
+-- where it is told what a shelf holds: a name holds these bytes and no others
 abbrev pub put_in : List ℕ → List ℕ → Option Held → Option Held
 put_in name bytes = option_map (λ held. with_bytes held name bytes)
 
--- the same where it is told: a piece follows the bytes of a name
+-- where it is told what a shelf holds: a piece follows the bytes of a name
 abbrev pub add_to : List ℕ → List ℕ → Option Held → Option Held
 add_to name piece = option_map (λ held. with_piece held name piece)
 

@@ -57,7 +57,7 @@ pub record IsCounted (old new : MemShelf) : Type 0 where
   pub calls : mem_calls new ≡ next_count (mem_calls old)
   pub failing : mem_failing new ≡ mem_failing old
 
--- no call was counted, and no fault
+-- no call and no fault was counted, and the list of the calls that are to fail stays
 pub record IsUncounted (old new : MemShelf) : Type 0 where
   pub calls : mem_calls new ≡ mem_calls old
   pub failing : mem_failing new ≡ mem_failing old
