@@ -1,36 +1,64 @@
 -- What plain files give, and what they do not.
-use Rattle.std.proofs.Common.{◌≡◌, ℕ, zero, suc, ◌+◌, ◌*◌, ◌<◌, ◌≤◌, Bool, true, false, eqb, List, [], ◌∷◌, length, get_or, take, map, Option, Some, None, cond, refl, sym, ◌∙◌, ap, arith}
-use Rattle.std.specs.List.{list_all}
+use Rattle.std.proofs.Common.{◌≡◌, ℕ, ◌+◌, ◌*◌, ◌<◌, Bool, true, false, List, [], ◌∷◌, length, get_or, take, map, Option, Some, None, is_some, is_none, option_map, cond, refl, sym, subst, ◌∙◌, ap, arith}
+use Rattle.std.specs.List.{list_all, find}
 use Rattle.std.proofs.lemmas.List.{length-map, get_or-map}
-use Rattle.std.proofs.lemmas.Bool.Decides.{nat_tests}
+use Rattle.service_model.proofs.SearchFacts.{first_of_none}
 use Rattle.service_model.specs.declared.stage.Stage.{Stage}
-use Rattle.service_model.specs.Net.{Net, stage_at, no_stage}
+use Rattle.service_model.specs.Net.{stage_at, no_stage}
 use Rattle.stage_file.specs.declared.stages.StageRow.{StageRow}
-use Rattle.stage_file.specs.declared.stages.Bound.TheVariants.{Sum}
+use Rattle.stage_file.specs.declared.arcs.ArcRow.{ArcRow}
+use Rattle.stage_file.specs.declared.fault.FileFault.{FileFault}
+use Rattle.stage_file.specs.declared.rules.TheConstants.{NO_TABLE}
+use Rattle.stage_file.specs.declared.stages.Bound.{Bound}
+use Rattle.stage_file.specs.declared.stages.Bound.TheVariants.{Named, Normal, Sum, Pool}
+use Rattle.stage_file.specs.Arcs.{place_of}
+use Rattle.planner_top.specs.declared.not_yet.TheConstants.{BOUND_NOT_YET}
 use Rattle.stage_file.specs.declared.raw.RawNet.{RawNet}
 use Rattle.planner_top.specs.declared.checked.Checked.{Checked}
-use Rattle.planner_top.specs.Checked.{has_table, excess_of, stage_with, stage_from, arc_from, network_from, checked_from, plain_of, unit_at, excess_at, IsChecked}
+use Rattle.planner_top.specs.Checked.{no_table, table_names, excess_by, has_table, lacks_table, is_built, without_table, with_built, bound_fault, arcs_fault, plain_fault, excess_of, stage_from, arc_from, network_from, checked_from, unit_at, excess_at, IsChecked}
 
-some_arcs : (n : ℕ) → 0 < n → eqb n 0 ≡ false
-some_arcs n some = grind (arith, nat_tests)
+named_has : (raw : RawNet) (place : Option ℕ) → is_none place ≡ false → is_some (option_map (λ k. take (raw.horizon + 1) (get_or raw.tables k no_table).entries) place) ≡ true
+named_has raw None there = cc
+named_has raw (Some k) there = refl
 
--- files with an arc are not plain
-pub not_plain_arcs : (raw : RawNet) → 0 < length raw.arcs → plain_of raw ≡ None
-unfolding plain_of
-not_plain_arcs raw some = rw (some_arcs (length raw.arcs) some) refl
+bound_has : (raw : RawNet) (bound : Bound) → lacks_table (table_names raw.tables) bound ≡ false → is_built bound ≡ false → is_some (excess_by raw bound) ≡ true
+unfolding lacks_table is_built excess_by
+bound_has raw (Named name) there named = named_has raw (place_of (table_names raw.tables) name) there
+bound_has raw (Normal factor) there named = cc
+bound_has raw Sum there named = cc
+bound_has raw Pool there named = cc
 
-either_none : (b : Bool) (x : Option Checked) → x ≡ None → cond b x None ≡ None
-either_none true x e = e
-either_none false x e = refl
+stage_has : (raw : RawNet) (s : StageRow) → without_table (table_names raw.tables) s ≡ false → with_built s ≡ false → has_table raw s ≡ true
+unfolding has_table
+stage_has raw s there named = bound_has raw s.bound there named
 
--- files with a bound that names no table are not plain
-pub not_plain_table : (raw : RawNet) → list_all (has_table raw) raw.stages ≡ false → plain_of raw ≡ None
-unfolding plain_of
-not_plain_table raw lacks = rw lacks (either_none (eqb (length raw.arcs) 0) None refl)
+found_next : {X : Type 0} (p : X → Bool) (x : X) (xs : List X) (here : Bool) → p x ≡ here → cond here (Some x) (find p xs) ≡ None → (p x ≡ false) × (find p xs ≡ None)
+found_next p x xs true is none = cc
+found_next p x xs false is none = (is, none)
 
-pub plain_is : (raw : RawNet) → length raw.arcs ≡ 0 → list_all (has_table raw) raw.stages ≡ true → plain_of raw ≡ Some (checked_from raw)
-unfolding plain_of
-plain_is raw none tables = rw (none, tables) refl
+all_have : (raw : RawNet) (stages : List StageRow) → find (without_table (table_names raw.tables)) stages ≡ None → find with_built stages ≡ None → list_all (has_table raw) stages ≡ true
+all_have raw [] lacking built = refl
+all_have raw (s ∷ stages) lacking built =
+    let here = found_next (without_table (table_names raw.tables)) s stages (without_table (table_names raw.tables) s) refl lacking in
+    let also = found_next with_built s stages (with_built s) refl built in
+    rw (stage_has raw s here.0 also.0, all_have raw stages here.1 also.1) refl
+
+mapped_none : {X : Type 0} (f : X → FileFault) (found : Option X) → option_map f found ≡ None → found ≡ None
+mapped_none f None none = refl
+mapped_none f (Some x) none = cc
+
+no_arcs : (arcs : List ArcRow) → arcs_fault arcs ≡ None → length arcs ≡ 0
+no_arcs [] none = refl
+no_arcs (a ∷ arcs) none = cc
+
+-- where no rule fails on the records together, each bound names a table, and there is no arc
+pub plain_is : (raw : RawNet) → plain_fault raw ≡ None → (list_all (has_table raw) raw.stages ≡ true) × (length raw.arcs ≡ 0)
+unfolding plain_fault
+plain_is raw none =
+    let lacking = option_map (bound_fault NO_TABLE) (find (without_table (table_names raw.tables)) raw.stages) in
+    let built = option_map (bound_fault BOUND_NOT_YET) (find with_built raw.stages) in
+    let each = first_of_none (lacking ∷ built ∷ arcs_fault raw.arcs ∷ []) none in
+    (all_have raw raw.stages (mapped_none (bound_fault NO_TABLE) _ each.0) (mapped_none (bound_fault BOUND_NOT_YET) _ each.1.0), no_arcs raw.arcs each.1.1.0)
 
 abbrev no_row : StageRow
 no_row = record { name = []; lead = 0; supply = 0; least = 0; most = 0; bound = Sum; unit = 0; row = 0 }
@@ -55,3 +83,7 @@ checked_is raw none =
       no_arcs = length-map raw.arcs arc_from ∙ none;
       costs = costs_are raw;
     }
+
+-- the network of records on which no rule fails
+pub plain_case : (raw : RawNet) (c : Checked) → plain_fault raw ≡ None → c ≡ checked_from raw → (plain_fault raw ≡ None) × (c ≡ checked_from raw) × IsChecked c
+plain_case raw c none same = (none, same, subst (λ (x : Checked). IsChecked x) (sym same) (checked_is raw (plain_is raw none).1))

@@ -1,7 +1,7 @@
 -- The promise of the top call follows from what each status says.
-use Rattle.std.proofs.Common.{◌≡◌, ◌≢◌, ◌≤◌, ◌↔◌, ℕ, List, Option, Some, None, Result, Ok, Err, [], ◌∷◌, refl, sym, ◌∙◌, subst, arith, inl, inr}
+use Rattle.std.proofs.Common.{◌≡◌, ◌≤◌, ◌↔◌, ℕ, List, Option, Some, None, Result, Ok, Err, [], ◌∷◌, refl, sym, ◌∙◌, subst, arith, inl, inr}
 use Rattle.std.specs.Option.{IfSome}
-use Rattle.std.specs.Result.{MatchResult}
+use Rattle.std.specs.Result.{MatchResult, IsOk}
 use Rattle.gsm_outside.specs.Held.{Held}
 use Rattle.gsm_outside.specs.Causes.{Rose}
 use Rattle.service_model.specs.declared.plan.Plan.{Plan}
@@ -30,16 +30,16 @@ not_empty c d plan same least empty =
 
 solved_exactly : (c : Checked) (e : Ending) (rows : List (List (List ℕ))) → IsSolution e rows c → Exactly (Ok c) e
 solved_exactly c ending.Done rows is = record {
-  words = (λ same. cc, λ same. cc);
+  words = (λ same. cc, λ (fault, same). cc);
   too_long = (λ same. cc, λ (word, same). cc);
-  refused = (λ same. cc, λ same. cc);
+  refused = (λ same. cc, λ (fault, same). cc);
   infeasible = (λ same. cc, λ (d, same, empty). absurd (not_empty c d is.0 (one_network c d same) is.1 empty));
   done = (λ same. (c, is.0, refl, is.1), λ whole. refl);
 }
 solved_exactly c ending.Infeasible rows is = record {
-  words = (λ same. cc, λ same. cc);
+  words = (λ same. cc, λ (fault, same). cc);
   too_long = (λ same. cc, λ (word, same). cc);
-  refused = (λ same. cc, λ same. cc);
+  refused = (λ same. cc, λ (fault, same). cc);
   infeasible = (λ same. (c, refl, is.0), λ whole. refl);
   done = (λ same. cc, λ (d, plan, same, least). absurd (not_empty d c plan (sym (one_network c d same)) least is.0));
 }
@@ -48,24 +48,24 @@ solved_exactly c ending.Refused rows is = absurd is
 solved_exactly c ending.TooLong rows is = absurd is
 
 refusal_exactly : (s : Stop) → Exactly (Err s) (ending_of s)
-refusal_exactly stop.Words = record {
-  words = (λ same. refl, λ same. refl);
+refusal_exactly (stop.Words fault) = record {
+  words = (λ same. (fault, refl), λ whole. refl);
   too_long = (λ same. cc, λ (word, same). cc);
-  refused = (λ same. cc, λ same. cc);
+  refused = (λ same. cc, λ (other, same). cc);
   infeasible = (λ same. cc, λ (c, same, empty). cc);
   done = (λ same. cc, λ (c, plan, same, least). cc);
 }
 refusal_exactly (stop.TooLong word) = record {
-  words = (λ same. cc, λ same. cc);
+  words = (λ same. cc, λ (fault, same). cc);
   too_long = (λ same. (word, refl), λ whole. refl);
-  refused = (λ same. cc, λ same. cc);
+  refused = (λ same. cc, λ (fault, same). cc);
   infeasible = (λ same. cc, λ (c, same, empty). cc);
   done = (λ same. cc, λ (c, plan, same, least). cc);
 }
-refusal_exactly stop.Refused = record {
-  words = (λ same. cc, λ same. cc);
+refusal_exactly (stop.Refused fault) = record {
+  words = (λ same. cc, λ (other, same). cc);
   too_long = (λ same. cc, λ (word, same). cc);
-  refused = (λ same. refl, λ same. refl);
+  refused = (λ same. (fault, refl), λ whole. refl);
   infeasible = (λ same. cc, λ (c, same, empty). cc);
   done = (λ same. cc, λ (c, plan, same, least). cc);
 }
@@ -193,7 +193,7 @@ pub headline_from : (r : Run) → r.held_after ≡ r.held → r.writes_after ≡
 headline_from r shelf writes case = headline_by r r.status shelf writes refl case
 
 -- what is left of a run whose read failed
-pub fault_case : (r : Run) (word : FileWord) (s : Status) → r.reads ≤ r.reads_after → Rose r.reads r.reads_after → asked_of r.words ≢ None → FaultCase word r.written r.written_after r.faults r.faults_after s → StatusCase r s
+pub fault_case : (r : Run) (word : FileWord) (s : Status) → r.reads ≤ r.reads_after → Rose r.reads r.reads_after → IsOk (asked_of r.words) → FaultCase word r.written r.written_after r.faults r.faults_after s → StatusCase r s
 fault_case r word status.ReadFault later rose asked case = (later, (rose, case.0, asked, (word, case.1)))
 fault_case r word status.WriteFault later rose asked case = (later, case.0, case.1, inr (fault_row word ∷ [], inr (word, refl), case.2))
 fault_case r word status.NoMemory later rose asked (faults, inl same) = (later, faults, inl same)

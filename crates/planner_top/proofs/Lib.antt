@@ -6,7 +6,7 @@ pub mod PlainFacts
 pub mod ProblemFacts
 pub mod ReadFacts
 pub mod ReportFacts
-pub mod RequestFacts
 pub mod SourceFacts
 pub mod TableNames
+pub mod WordFacts
 pub mod HeadlineFacts

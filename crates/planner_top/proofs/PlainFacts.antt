@@ -8,26 +8,6 @@ use Rattle.stage_file.specs.declared.raw.RawNet.{RawNet}
 use Rattle.service_model.specs.declared.stage.Stage.{Stage}
 use Rattle.planner_top.specs.Checked.{excess_by, has_table, excess_of, stage_with, stage_from}
 
--- a stage whose bound names no table
-pub lacks_table : (raw : RawNet) (stages : List StageRow) (k : ℕ) (s : StageRow) → k < length stages → s ≡ get_or stages k s → excess_by raw s.bound ≡ None → list_all (has_table raw) stages ≡ false
-unfolding has_table
-lacks_table raw stages k s within here none =
-    list_all_at (has_table raw) stages k s within (rw (← here, none) refl)
-
--- one more stage whose bound names a table
-pub tables_more : (raw : RawNet) (stages : List StageRow) (k : ℕ) (s : StageRow) (excess : List ℕ) → k < length stages → s ≡ get_or stages k s → excess_by raw s.bound ≡ Some excess
-    → list_all (has_table raw) (take k stages) ≡ true → list_all (has_table raw) (take (k + 1) stages) ≡ true
-unfolding has_table
-tables_more raw stages k s excess within here some before =
-    rw (list_all_more (has_table raw) stages k s within, before, ← here, some) refl
-
--- one more stage's excess demand
-pub excess_more : (raw : RawNet) (stages : List StageRow) (k : ℕ) (s : StageRow) (excess : List ℕ) (lists : List (List ℕ)) → k < length stages → s ≡ get_or stages k s → excess_by raw s.bound ≡ Some excess
-    → lists ≡ map (excess_of raw) (take k stages) → lists ++ excess ∷ [] ≡ map (excess_of raw) (take (k + 1) stages)
-unfolding excess_of
-excess_more raw stages k s excess lists within here some before =
-    rw (map_more (excess_of raw) stages k s within, before, ← here, some) refl
-
 -- the excess demand that is listed for a stage
 pub excess_listed : (raw : RawNet) (lists : List (List ℕ)) (k : ℕ) (s : StageRow) (x : List ℕ) → lists ≡ map (excess_of raw) raw.stages → k < length raw.stages → get_or raw.stages k s ≡ s → get_or lists k [] ≡ x → x ≡ excess_of raw s
 excess_listed raw lists k s x all within here there =

@@ -1,12 +1,13 @@
--- What is known of the network that words ask to solve, once their files are read.
-use Rattle.std.proofs.Common.{◌≡◌, ◌≢◌, ℕ, ◌≤◌, List, Option, Some, None, Result, Ok, Err, refl, sym, subst, arith}
+-- What is known of the network that a request asks to solve, once their files are read.
+use Rattle.std.proofs.Common.{◌≡◌, ℕ, ◌≤◌, List, Option, Some, None, Result, Ok, Err, refl, subst, arith}
 use Rattle.std.specs.Option.{IfSome}
+use Rattle.stage_file.specs.declared.fault.FileFault.{FileFault}
 use Rattle.gsm_outside.specs.Held.{Held}
-use Rattle.planner_top.specs.Asked.{Asked, asked_of}
+use Rattle.planner_top.specs.Asked.{Asked}
 use Rattle.planner_top.specs.Contents.{too_long_of, contents_of}
 use Rattle.planner_top.specs.Checked.{files_in, checked_of, IsChecked, CheckedCase}
-use Rattle.planner_top.specs.Answers.{problem_of}
-use Rattle.planner_top.specs.Problems.{ProblemCase}
+use Rattle.planner_top.specs.Answers.{asked_problem}
+use Rattle.planner_top.specs.Problems.{AskedCase}
 use Rattle.planner_top.specs.declared.contents.Contents.{Contents}
 use Rattle.planner_top.specs.declared.checked.Checked.{Checked}
 use Rattle.planner_top.specs.declared.stop.Stop.TheVariants as stop
@@ -17,28 +18,23 @@ use Rattle.planner_top.specs.declared.stop.Unsolved.TheVariants as unsolved
 abbrev pub WereRead : Asked → Option Held → Contents → Type 0
 WereRead q held contents = IfSome held (λ m. (too_long_of q m ≡ None) × (contents ≡ contents_of q m))
 
-some_asked : (words : List (List ℕ)) (q : Asked) → asked_of words ≡ Some q → asked_of words ≢ None
-some_asked words q asked none = cc
+plain_told : (q : Asked) (held : Option Held) (contents : Contents) (c : Checked) → WereRead q held contents → checked_of q.horizon (files_in contents) ≡ Ok c → IfSome held (λ m. asked_problem q m ≡ Ok c)
+plain_told q None contents c read plain = tt
+plain_told q (Some m) contents c read plain =
+    let there : checked_of q.horizon (files_in (contents_of q m)) ≡ Ok c = subst (λ (x : Contents). checked_of q.horizon (files_in x) ≡ Ok c) read.1 plain in
+    rw (read.0, there) refl
 
-plain_told : (words : List (List ℕ)) (q : Asked) (held : Option Held) (contents : Contents) (c : Checked) → asked_of words ≡ Some q → WereRead q held contents → checked_of q.horizon (files_in contents) ≡ Some c → IfSome held (λ m. problem_of words m ≡ Ok c)
-plain_told words q None contents c asked read plain = tt
-plain_told words q (Some m) contents c asked read plain =
-    let there : checked_of q.horizon (files_in (contents_of q m)) ≡ Some c = subst (λ (x : Contents). checked_of q.horizon (files_in x) ≡ Some c) read.1 plain in
-    rw (asked, read.0, there) refl
+refused_told : (q : Asked) (held : Option Held) (contents : Contents) (fault : FileFault) → WereRead q held contents → checked_of q.horizon (files_in contents) ≡ Err fault → IfSome held (λ m. asked_problem q m ≡ Err (stop.Refused fault))
+refused_told q None contents fault read refused = tt
+refused_told q (Some m) contents fault read refused =
+    let there : checked_of q.horizon (files_in (contents_of q m)) ≡ Err fault = subst (λ (x : Contents). checked_of q.horizon (files_in x) ≡ Err fault) read.1 refused in
+    rw (read.0, there) refl
 
-refused_told : (words : List (List ℕ)) (q : Asked) (held : Option Held) (contents : Contents) → asked_of words ≡ Some q → WereRead q held contents → checked_of q.horizon (files_in contents) ≡ None → IfSome held (λ m. problem_of words m ≡ Err stop.Refused)
-refused_told words q None contents asked read plain = tt
-refused_told words q (Some m) contents asked read plain =
-    let there : checked_of q.horizon (files_in (contents_of q m)) ≡ None = subst (λ (x : Contents). checked_of q.horizon (files_in x) ≡ None) read.1 plain in
-    rw (asked, read.0, there) refl
-
-pub problem_case : (words : List (List ℕ)) (q : Asked) (held : Option Held) (before now : ℕ) (contents : Contents) (r : Result Checked Unsolved) → asked_of words ≡ Some q → now ≡ before → WereRead q held contents
-    → CheckedCase q.horizon (files_in contents) r → ProblemCase words held before now r
-problem_case words q held before now contents (Ok c) asked same read case =
-    (same, some_asked words q asked, case.1, plain_told words q held contents c asked read case.0)
-problem_case words q held before now contents (Err (unsolved.Stop stop.Refused)) asked same read case =
-    (same, some_asked words q asked, refused_told words q held contents asked read case)
-problem_case words q held before now contents (Err (unsolved.Stop stop.Words)) asked same read case = absurd case
-problem_case words q held before now contents (Err (unsolved.Stop (stop.TooLong word))) asked same read case = absurd case
-problem_case words q held before now contents (Err (unsolved.Fault word)) asked same read case = absurd case
-problem_case words q held before now contents (Err unsolved.NoMemory) asked same read case = omega arith
+pub asked_case : (q : Asked) (held : Option Held) (before now : ℕ) (contents : Contents) (r : Result Checked Unsolved) → now ≡ before → WereRead q held contents
+    → CheckedCase q.horizon (files_in contents) r → AskedCase q held before now r
+asked_case q held before now contents (Ok c) same read case = (same, case.1, plain_told q held contents c read case.0)
+asked_case q held before now contents (Err (unsolved.Stop (stop.Refused fault))) same read case = (same, refused_told q held contents fault read case)
+asked_case q held before now contents (Err (unsolved.Stop (stop.Words fault))) same read case = absurd case
+asked_case q held before now contents (Err (unsolved.Stop (stop.TooLong word))) same read case = absurd case
+asked_case q held before now contents (Err (unsolved.Fault word)) same read case = absurd case
+asked_case q held before now contents (Err unsolved.NoMemory) same read case = omega arith

@@ -1,6 +1,6 @@
--- The network of plain files: no rule fails, each bound names a table, and there is no arc.
-use Rattle.std.specs.Prelude.{◌≡◌, ℕ, ◌+◌, ◌*◌, ◌<◌, ◌≤◌, ◌==◌, Bool, List, [], ◌∷◌, length, take, map, slice_index, slice_index_or, Option, Some, None, is_some, unwrap_or, option_map, Result, Ok, Err, ⊤, if◌then◌else◌}
-use Rattle.std.specs.List.{list_all}
+-- The network of plain files, and the first rule that others fail: those of each file, and then those on the records together.
+use Rattle.std.specs.Prelude.{◌≡◌, ℕ, ◌+◌, ◌*◌, ◌<◌, Bool, true, false, List, [], ◌∷◌, length, take, map, find, slice_index, slice_index_or, Option, Some, None, is_some, is_none, unwrap_or, option_map, Result, Ok, Err, ⊤}
+use Rattle.service_model.specs.Search.{first_of}
 use Rattle.service_model.specs.declared.stage.Stage.{Stage}
 use Rattle.service_model.specs.declared.stage.SupplyArc.{SupplyArc}
 use Rattle.service_model.specs.Net.{Net, net_of, stage_at}
@@ -12,9 +12,13 @@ use Rattle.stage_file.specs.declared.arcs.ArcRow.{ArcRow}
 use Rattle.stage_file.specs.declared.raw.Files.{Files}
 use Rattle.stage_file.specs.declared.raw.RawNet.{RawNet}
 use Rattle.stage_file.specs.declared.fault.FileFault.{FileFault}
+use Rattle.stage_file.specs.declared.fault.FileKind.TheVariants as kind
+use Rattle.stage_file.specs.declared.rules.TheConstants.{NO_TABLE}
+use Rattle.stage_file.specs.Faults.{fault_of}
 use Rattle.stage_file.specs.Rows.{rows_of_bytes}
 use Rattle.stage_file.specs.Arcs.{place_of}
-use Rattle.stage_file.specs.Raw.{raw_fault, raw_of, IsRawNet}
+use Rattle.stage_file.specs.Raw.{raw_fault, raw_of}
+use Rattle.planner_top.specs.declared.not_yet.TheConstants.{BOUND_NOT_YET, ARCS_NOT_YET}
 use Rattle.planner_top.specs.declared.contents.Contents.{Contents}
 use Rattle.planner_top.specs.declared.checked.Checked.{Checked}
 use Rattle.planner_top.specs.declared.stop.Stop.{Stop}
@@ -79,19 +83,59 @@ checked_from raw = record {
   excess = map (excess_of raw) raw.stages;
 }
 
--- the same, where each bound names a table and there is no arc
-unfoldable pub plain_of : RawNet → Option Checked
-plain_of raw =
-    if length raw.arcs == 0 then (if list_all (has_table raw) raw.stages then Some (checked_from raw) else None) else None
+-- a bound is the name of no table
+unfoldable pub lacks_table : List (List ℕ) → Bound → Bool
+lacks_table tables (Named name) = is_none (place_of tables name)
+lacks_table tables (Normal factor) = false
+lacks_table tables Sum = false
+lacks_table tables Pool = false
 
--- an answer, where no rule fails
-abbrev pub unless_fault : {A : Type 0} → Option FileFault → Option A → Option A
-unless_fault None answer = answer
-unless_fault (Some f) answer = None
+-- a bound is no name: it is built from a number, or from other bounds
+unfoldable pub is_built : Bound → Bool
+is_built (Named name) = false
+is_built (Normal factor) = true
+is_built Sum = true
+is_built Pool = true
 
--- the network of files under a horizon, where they are plain
-abbrev pub checked_of : ℕ → Files → Option Checked
-checked_of horizon files = unless_fault (raw_fault horizon files) (plain_of (raw_of horizon files))
+-- a stage whose bound is the name of no table
+abbrev pub without_table : List (List ℕ) → StageRow → Bool
+without_table tables s = lacks_table tables s.bound
+
+-- a stage whose bound is built
+abbrev pub with_built : StageRow → Bool
+with_built s = is_built s.bound
+
+-- a rule at the bound of a stage
+abbrev pub bound_fault : ℕ → StageRow → FileFault
+bound_fault rule s = fault_of kind.Stages s.row rule 6
+
+-- no arc is solved yet
+abbrev pub arcs_fault : List ArcRow → Option FileFault
+arcs_fault [] = None
+arcs_fault (a ∷ arcs) = Some (fault_of kind.Arcs a.row ARCS_NOT_YET 0)
+
+-- the first rule that fails on the records together: a bound at the first stage where it fails, or the first arc
+unfoldable pub plain_fault : RawNet → Option FileFault
+plain_fault raw =
+    first_of (
+    option_map (bound_fault NO_TABLE) (find (without_table (table_names raw.tables)) raw.stages)
+    ∷ option_map (bound_fault BOUND_NOT_YET) (find with_built raw.stages)
+    ∷ arcs_fault raw.arcs
+    ∷ []
+    )
+
+-- an answer, or the rule that fails
+abbrev pub unless_fault : {A : Type 0} → Option FileFault → A → Result A FileFault
+unless_fault None answer = Ok answer
+unless_fault (Some fault) answer = Err fault
+
+-- the first rule that fails on files under a horizon: those of each file, and then those on their records together
+abbrev pub files_fault : ℕ → Files → Option FileFault
+files_fault horizon files = first_of (raw_fault horizon files ∷ plain_fault (raw_of horizon files) ∷ [])
+
+-- the network of files under a horizon, or the first rule that fails
+abbrev pub checked_of : ℕ → Files → Result Checked FileFault
+checked_of horizon files = unless_fault (files_fault horizon files) (checked_from (raw_of horizon files))
 
 abbrev pub name_at : Checked → ℕ → List ℕ
 name_at c j = slice_index_or c.names j []
@@ -112,14 +156,14 @@ pub record IsChecked (c : Checked) : Type 0 where
 
 -- what a call that makes the records' network gives
 abbrev pub PlainCase : RawNet → Result Checked Unsolved → Type 0
-PlainCase raw (Ok c) = (plain_of raw ≡ Some c) × IsChecked c
-PlainCase raw (Err (unsolved.Stop stop.Refused)) = plain_of raw ≡ None
+PlainCase raw (Ok c) = (plain_fault raw ≡ None) × (c ≡ checked_from raw) × IsChecked c
+PlainCase raw (Err (unsolved.Stop (stop.Refused fault))) = plain_fault raw ≡ Some fault
 PlainCase raw (Err unsolved.NoMemory) = ⊤
 PlainCase raw (Err _) = ⊥
 
 -- what a call that makes the network of files gives
 abbrev pub CheckedCase : ℕ → Files → Result Checked Unsolved → Type 0
-CheckedCase horizon files (Ok c) = (checked_of horizon files ≡ Some c) × IsChecked c
-CheckedCase horizon files (Err (unsolved.Stop stop.Refused)) = checked_of horizon files ≡ None
+CheckedCase horizon files (Ok c) = (checked_of horizon files ≡ Ok c) × IsChecked c
+CheckedCase horizon files (Err (unsolved.Stop (stop.Refused fault))) = checked_of horizon files ≡ Err fault
 CheckedCase horizon files (Err unsolved.NoMemory) = ⊤
 CheckedCase horizon files (Err _) = ⊥

@@ -1,5 +1,6 @@
 -- The promise of the top call.
 use Rattle.std.specs.Prelude.{◌≡◌, ◌≢◌, ◌≤◌, ◌↔◌, ℕ, List, Option, Some, None, Result, Ok, Err}
+use Rattle.stage_file.specs.declared.fault.FileFault.{FileFault}
 use Rattle.gsm_outside.specs.Held.{Held}
 use Rattle.gsm_outside.specs.Causes.{Rose}
 use Rattle.service_model.specs.declared.plan.Plan.{Plan}
@@ -8,6 +9,7 @@ use Rattle.planner_top.specs.Asked.{asked_of}
 use Rattle.planner_top.specs.Answers.{problem_of}
 use Rattle.planner_top.specs.Runs.{Run, Answered, FailedRead, PartPrinted, status_of}
 use Rattle.planner_top.specs.declared.checked.Checked.{Checked}
+use Rattle.planner_top.specs.declared.word_fault.WordFault.{WordFault}
 use Rattle.planner_top.specs.declared.stop.FileWord.{FileWord}
 use Rattle.planner_top.specs.declared.stop.Stop.{Stop}
 use Rattle.planner_top.specs.declared.stop.Stop.TheVariants as stop
@@ -17,9 +19,9 @@ use Rattle.planner_top.specs.declared.status.Status.TheVariants as status
 
 -- which ending comes exactly where, for the network that words and files ask to solve, or their refusal
 pub record Exactly (problem : Result Checked Stop) (e : Ending) : Type 0 where
-  pub words : (e ≡ ending.Words) ↔ (problem ≡ Err stop.Words)
+  pub words : (e ≡ ending.Words) ↔ ((fault : WordFault) × (problem ≡ Err (stop.Words fault)))
   pub too_long : (e ≡ ending.TooLong) ↔ ((word : FileWord) × (problem ≡ Err (stop.TooLong word)))
-  pub refused : (e ≡ ending.Refused) ↔ (problem ≡ Err stop.Refused)
+  pub refused : (e ≡ ending.Refused) ↔ ((fault : FileFault) × (problem ≡ Err (stop.Refused fault)))
   pub infeasible : (e ≡ ending.Infeasible) ↔ ((c : Checked) × (problem ≡ Ok c) × Empty c.network)
   pub done : (e ≡ ending.Done) ↔ ((c : Checked) × (plan : Plan) × (problem ≡ Ok c) × Least c.network plan)
 

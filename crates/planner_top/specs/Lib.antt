@@ -1,4 +1,6 @@
 pub mod Statuses
+pub mod Commands
+pub mod Words
 pub mod Asked
 pub mod Requests
 pub mod Reading

@@ -1,5 +1,5 @@
 -- What is seen of a run, and what each status says of it.
-use Rattle.std.specs.Prelude.{◌≡◌, ◌≢◌, ◌≤◌, ◌⊎◌, ℕ, List, [], ◌∷◌, ◌++◌, Option, None, take, option_map}
+use Rattle.std.specs.Prelude.{◌≡◌, ◌≤◌, ◌⊎◌, ℕ, List, [], ◌∷◌, ◌++◌, Option, IsOk, take, option_map}
 use Rattle.gsm_outside.specs.Held.{Held}
 use Rattle.gsm_outside.specs.Causes.{Rose}
 use Rattle.planner_top.specs.Asked.{asked_of}
@@ -64,10 +64,10 @@ Answered r e =
     (r.reads_after ≡ r.reads) × (r.faults_after ≡ r.faults)
     × ((rows : List (List (List ℕ))) × IsAnswer r.words r.held e rows × Follows r.written (lines_of rows) r.written_after)
 
--- a read failed, and the line that says so follows what was written
+-- a read failed, no rule on words did, and the line that says so follows what was written
 abbrev pub FailedRead : Run → Type 0
 FailedRead r =
-    Rose r.reads r.reads_after × (r.faults_after ≡ r.faults) × (asked_of r.words ≢ None)
+    Rose r.reads r.reads_after × (r.faults_after ≡ r.faults) × IsOk (asked_of r.words)
     × ((word : FileWord) × Follows r.written (lines_of (fault_row word ∷ [])) r.written_after)
 
 -- the rows that a run prints: an answer, or that a file could not be read

@@ -1,10 +1,15 @@
 -- The texts that a run prints, as rows that `csv` writes.
-use Rattle.std.specs.Prelude.{ℕ, ◌+◌, ◌-◌, ◌*◌, List, [], ◌∷◌, ◌++◌, length, map, slice_index, codes, decimal, flat_map}
+use Rattle.std.specs.Prelude.{ℕ, ◌+◌, ◌-◌, ◌*◌, ◌==◌, List, [], ◌∷◌, ◌++◌, length, map, slice_index, codes, decimal, flat_map, if◌then◌else◌}
 use Rattle.std.specs.List.{range_with_len}
 use Rattle.csv.specs.Writing.{row_text, default_writer}
 use Rattle.service_model.specs.declared.plan.Plan.{Plan}
 use Rattle.service_model.specs.Net.{Net, stage_at}
 use Rattle.service_model.specs.Plans.{inbound_at, outbound_at, cost_of}
+use Rattle.stage_file.specs.declared.fault.FileFault.{FileFault}
+use Rattle.stage_file.specs.declared.fault.FileKind.{FileKind}
+use Rattle.stage_file.specs.declared.fault.FileKind.TheVariants as kind
+use Rattle.planner_top.specs.declared.not_yet.TheConstants.{BOUND_NOT_YET, ARCS_NOT_YET}
+use Rattle.planner_top.specs.declared.word_fault.WordFault.{WordFault}
 use Rattle.planner_top.specs.declared.checked.Checked.{Checked}
 use Rattle.planner_top.specs.declared.stop.FileWord.{FileWord}
 use Rattle.planner_top.specs.declared.stop.FileWord.TheVariants as file
@@ -58,11 +63,33 @@ file_text file.Stages = codes "stages"
 file_text file.Tables = codes "tables"
 file_text file.Arcs = codes "arcs"
 
+abbrev pub kind_text : FileKind → List ℕ
+kind_text kind.Stages = codes "stages"
+kind_text kind.Tables = codes "tables"
+kind_text kind.Arcs = codes "arcs"
+kind_text kind.Plan = codes "plan"
+kind_text kind.Words = codes "words"
+
+-- a rule on files: `F` and its number, or the name of what is not solved yet
+unfoldable pub rule_text : ℕ → List ℕ
+rule_text rule =
+    if rule == BOUND_NOT_YET then codes "BoundNotYet"
+    else if rule == ARCS_NOT_YET then codes "ArcsNotYet"
+    else codes "F" ++ decimal rule
+
+-- the rule on words that fails, and its place
+abbrev pub word_row : WordFault → List (List ℕ)
+word_row fault = codes "words" ∷ (codes "W" ++ decimal fault.rule) ∷ decimal fault.place ∷ []
+
+-- the rule on files that fails, and its place: the file, the record and the column
+abbrev pub refused_row : FileFault → List (List ℕ)
+refused_row fault = codes "refused" ∷ rule_text fault.rule ∷ kind_text fault.file ∷ decimal fault.row ∷ decimal fault.column ∷ []
+
 -- what is printed where a run is refused
 abbrev pub stop_row : Stop → List (List ℕ)
-stop_row stop.Words = codes "words" ∷ []
+stop_row (stop.Words fault) = word_row fault
 stop_row (stop.TooLong word) = codes "too long" ∷ file_text word ∷ []
-stop_row stop.Refused = codes "refused" ∷ []
+stop_row (stop.Refused fault) = refused_row fault
 
 -- what is printed where a file could not be read
 abbrev pub fault_row : FileWord → List (List ℕ)

@@ -1,5 +1,5 @@
 // From the bytes of plain files to a network.
-ghost use Rattle.std.specs.Prelude.{◌≡◌, ◌≤◌, ◌+◌, ◌*◌, ◌^◌, true, false, IfOk, IfSome, MatchOption, All, map, length, option_map, ◌<◌};
+ghost use Rattle.std.specs.Prelude.{◌≡◌, ◌≤◌, ◌+◌, ◌*◌, ◌^◌, IfOk, All, map, length, option_map, true};
 ghost use Rattle.std.specs.List.{list_all};
 ghost use Rattle.stage_file.specs.Raw.{IsRawNet};
 ghost use Rattle.stage_file.specs.Tables.{AreTableRows};
@@ -8,6 +8,7 @@ ghost use Rattle.planner_top.specs.Checked.{files_in, excess_by, has_table, exce
 
 use crate::checked::Checked;
 use crate::contents::Contents;
+use crate::plain_rules::plain_fault;
 use crate::stop::{Stop, Unsolved};
 use service_model::{List, Network, NewFault, NoMemory, Stage};
 use stage_file::{
@@ -16,7 +17,7 @@ use stage_file::{
 };
 use std::alloc::Global;
 
-/// The network of plain files under a horizon; refused where the files are not plain.
+/// The network of plain files under a horizon, or the first rule that fails.
 pub fn checked_of(alloc: Global, contents: &Contents, horizon: u16) -> Result<Checked, Unsolved>
     requires horizon { horizon ≤ 400 }
     requires short { AreShort contents.now }
@@ -29,23 +30,22 @@ pub fn checked_of(alloc: Global, contents: &Contents, horizon: u16) -> Result<Ch
     };
     match raw_net(alloc, &files, horizon) {
         Ok(raw) => plain_of(alloc, &raw),
-        Err(ReadFault::Fault(_)) => Err(Unsolved::Stop(Stop::Refused)),
+        Err(ReadFault::Fault(fault)) => Err(Unsolved::Stop(Stop::Refused(fault))),
         Err(ReadFault::NoMemory) => Err(Unsolved::NoMemory),
     }
 }
 
-// The network of the records, where each bound names a table and there is no arc.
+// The network of the records, or the first rule that fails on them together.
 fn plain_of(alloc: Global, raw: &RawNet) -> Result<Checked, Unsolved>
     requires horizon { raw.now.horizon ≤ 400 }
     requires read { IsRawNet raw.now }
     ensures { PlainCase raw.now result }
 {
-    if raw.arcs.len() > 0 {
-        return Err(Unsolved::Stop(Stop::Refused));
+    let tables = table_names(alloc, raw.tables.as_slice())?;
+    if let Some(fault) = plain_fault(raw, &tables) {
+        return Err(Unsolved::Stop(Stop::Refused(fault)));
     }
-    let Some(excess) = excess_lists(alloc, raw)? else {
-        return Err(Unsolved::Stop(Stop::Refused));
-    };
+    let excess = excess_lists(alloc, raw, &tables)?;
     let network = network_of(alloc, raw, &excess)?;
     Ok(Checked {
         network,
@@ -55,21 +55,28 @@ fn plain_of(alloc: Global, raw: &RawNet) -> Result<Checked, Unsolved>
     })
 }
 
-// The excess demands of all stages, if each bound names a table.
-fn excess_lists(alloc: Global, raw: &RawNet) -> Result<Option<List<List<u64>>>, NoMemory>
-    requires { AreTableRows raw.now.tables }
-    ensures { IfOk result (λ found. MatchOption found (list_all (has_table raw.now) raw.now.stages ≡ false)
-        (λ lists. (list_all (has_table raw.now) raw.now.stages ≡ true) × (lists ≡ map (excess_of raw.now) raw.now.stages))) }
+// The excess demands of all stages.
+fn excess_lists(alloc: Global, raw: &RawNet, tables: &Names) -> Result<List<List<u64>>, NoMemory>
+    requires { tables.now ≡ table_names raw.now.tables }
+    ensures { IfOk result (λ lists. lists ≡ map (excess_of raw.now) raw.now.stages) }
 {
-    let names = table_names(alloc, raw.tables.as_slice())?;
     let mut lists = List::new(alloc);
     'stages: for stage in raw.stages.as_slice() {
-        let Some(excess) = excess_by(raw, &names, &stage.bound) else {
-            return Ok(None);
-        };
-        lists.push(List::copied(alloc, excess)?)?;
+        lists.push(List::copied(alloc, excess_of(raw, tables, stage))?)?;
     }
-    Ok(Some(lists))
+    Ok(lists)
+}
+
+// The excess demand of a stage, none where its bound names no table.
+#[tactic(auto, unfolding(crate::specs::Checked::excess_of))]
+fn excess_of<'a>(raw: &'a RawNet, tables: &Names, stage: &StageRow) -> &'a [u64]
+    requires { tables.now ≡ table_names raw.now.tables }
+    ensures { result.now ≡ excess_of raw.now stage.now }
+{
+    match excess_by(raw, tables, &stage.bound) {
+        Some(excess) => excess,
+        None => &[],
+    }
 }
 
 // The names of the tables, by which their places are found.

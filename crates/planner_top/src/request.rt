@@ -1,80 +1,75 @@
 // What the words ask for.
-ghost use Rattle.std.specs.Prelude.{◌≡◌, ◌≤◌, option_map, codes, IfSome};
-ghost use Rattle.planner_top.specs.Asked.{value_of, name_of, horizon_of, asked_by, asked_of};
-ghost use Rattle.planner_top.specs.Requests.{request_as};
+ghost use Rattle.std.specs.Prelude.{◌≡◌, ◌≤◌, drop, find, option_map, string_bytes};
+ghost use Rattle.planner_top.specs.Words.{texts, is_keyed};
+ghost use Rattle.planner_top.specs.Asked.{value_at, number_to, asked_by, asked_of};
+ghost use Rattle.planner_top.specs.Requests.{request_as, RequestCase};
 
 use crate::asked::Request;
+use crate::command::{Key, key_text};
+use crate::word_fault::{WordFault, word_fault};
+use crate::word_tests::{is_keyed, value_in};
 use crate::words::Words;
 use gsm_nums::read_whole;
 use service_model::MAX_HORIZON;
 
-/// What the words ask for, where they are the five of a solve.
+/// What the words ask for, their keys in any order, or the first rule on words that fails.
 #[tactic(auto, unfolding(crate::specs::Asked::asked_of))]
-pub fn request_of(words: &Words) -> Option<Request<'_>>
-    ensures value { option_map request_as result ≡ asked_of words.now }
-    ensures horizon { IfSome result (λ r. r.horizon ≤ 400) }
+pub fn request_of(words: &Words) -> Result<Request<'_>, WordFault>
+    ensures { RequestCase words.now result }
 {
-    let [command, stages, tables, arcs, horizon] = words.as_slice() else {
-        return None;
-    };
-    if command.as_bytes() != b"solve".as_slice() {
-        return None;
+    let words = words.as_slice();
+    match word_fault(words) {
+        Some(fault) => Err(fault),
+        None => Ok(request_in(words)),
     }
-    request_by(
-        stages.as_str(),
-        tables.as_str(),
-        arcs.as_str(),
-        horizon.as_str(),
-    )
 }
 
-fn request_by<'a>(
-    stages: &'a str,
-    tables: &'a str,
-    arcs: &'a str,
-    horizon: &str,
-) -> Option<Request<'a>>
-    ensures value { option_map request_as result ≡ asked_by stages.now tables.now arcs.now horizon.now }
-    ensures horizon { IfSome result (λ r. r.horizon ≤ 400) }
+fn request_in(words: &[String]) -> Request<'_>
+    ensures value { request_as result ≡ asked_by (drop 1 (texts words.now)) }
+    ensures horizon { result.horizon ≤ 400 }
 {
-    let stages = name_of("stages=", stages)?;
-    let tables = name_of("tables=", tables)?;
-    let arcs = name_of("arcs=", arcs)?;
-    let horizon = horizon_of(horizon)?;
-    Some(Request {
-        stages,
-        tables,
-        arcs,
-        horizon,
-    })
+    match words {
+        [_, later @ ..] => request_by(later),
+        [] => request_by(words),
+    }
 }
 
-// What follows a key.
-#[tactic(auto, unfolding(crate::specs::Asked::value_of))]
-fn value_of<'a>(key: &str, word: &'a str) -> Option<&'a str>
-    ensures { option_map (λ s. s.now) result ≡ value_of key.now word.now }
+fn request_by(later: &[String]) -> Request<'_>
+    ensures value { request_as result ≡ asked_by (texts later.now) }
+    ensures horizon { result.horizon ≤ 400 }
 {
-    word.strip_prefix(key)
+    Request {
+        stages: value_at(Key::Stages, later),
+        tables: value_at(Key::Tables, later),
+        arcs: value_at(Key::Arcs, later),
+        horizon: number_to(MAX_HORIZON, value_at(Key::Horizon, later)),
+    }
 }
 
-// The name behind a key, where there is one that is not empty.
-#[tactic(auto, unfolding(crate::specs::Asked::name_of))]
-fn name_of<'a>(key: &str, word: &'a str) -> Option<&'a str>
-    ensures { option_map (λ s. s.now) result ≡ name_of key.now word.now }
+// The value of the first word that has the key.
+fn value_at(key: Key, later: &[String]) -> &str
+    ensures { result.now ≡ value_at key (texts later.now) }
 {
-    let name = value_of(key, word)?;
-    if name.is_empty() { None } else { Some(name) }
+    match first_keyed(later, key_text(key)) {
+        Some(word) => value_in(word.as_str()),
+        None => "",
+    }
 }
 
-// The horizon behind its key.
-#[tactic(auto, unfolding(crate::specs::Asked::horizon_of))]
-fn horizon_of(word: &str) -> Option<u16>
-    ensures value { result ≡ horizon_of word.now }
-    ensures within { IfSome result (λ h. h ≤ 400) }
+fn first_keyed<'a>(words: &'a [String], text: &str) -> Option<&'a String>
+    ensures { option_map (λ s. s.now) result ≡ find (λ s. is_keyed text.now (string_bytes s)) words.now }
 {
-    let text = value_of("horizon=", word)?;
-    match read_whole(text.as_bytes(), 0, MAX_HORIZON as u64) {
-        Ok(horizon) => Some(horizon as u16),
-        Err(_) => None,
+    words.iter().find(|word| is_keyed(text, word.as_str()))
+}
+
+// The number that a value shows; 0 where it shows none up to the greatest, which no rule on words lets through.
+#[tactic(auto, unfolding(crate::specs::Asked::number_to))]
+fn number_to(most: u16, value: &str) -> u16
+    ensures value { result ≡ number_to most value.now }
+    ensures within { result ≤ most }
+{
+    match read_whole(value.as_bytes(), 0, most as u64) {
+        Ok(number) => number as u16,
+        Err(_) => 0,
     }
 }

@@ -1,19 +1,22 @@
 // From the words to the answer.
-ghost use Rattle.std.specs.Prelude.{◌≡◌, ◌∷◌, [], IfOk};
+ghost use Rattle.std.specs.Prelude.{◌≡◌, ◌≤◌, IfOk};
+ghost use Rattle.planner_top.specs.Requests.{request_as};
 ghost use Rattle.planner_top.specs.Checked.{IsChecked};
-ghost use Rattle.planner_top.specs.Texts.{plan_rows, infeasible_rows, ranges_row, report_header, stop_row, file_text};
+ghost use Rattle.planner_top.specs.Texts.{plan_rows, infeasible_rows, ranges_row, report_header};
 ghost use Rattle.service_model.specs.Plans.{Feasible};
-ghost use Rattle.planner_top.specs.Answers.{IsSolution, IsRefusal, ending_of};
-ghost use Rattle.planner_top.specs.Problems.{ProblemCase, AnswerCase};
+ghost use Rattle.planner_top.specs.Answers.{IsSolution};
+ghost use Rattle.planner_top.specs.Problems.{ProblemCase, AskedCase, AnswerCase};
 
 use crate::answer::{Answer, Ending, Unanswered};
+use crate::asked::Request;
 use crate::checked::Checked;
 use crate::files::read_files;
 use crate::least::least_plan;
 use crate::plain::checked_of;
+use crate::refusal::refusal_of;
 use crate::report::push_report;
 use crate::request::request_of;
-use crate::stop::{FileWord, Stop, Unsolved};
+use crate::stop::{Stop, Unsolved};
 use crate::text::{number, row_of};
 use crate::words::Words;
 use gsm_outside::Shelf;
@@ -45,10 +48,24 @@ fn problem_of<S: Shelf>(alloc: Global, words: &Words, shelf: &mut S) -> Result<C
     ensures held { S.held shelf.new ≡ S.held shelf.old }
     ensures writes { S.write_faults shelf.new ≡ S.write_faults shelf.old }
 {
-    let Some(request) = request_of(words) else {
-        return Err(Unsolved::Stop(Stop::Words));
-    };
-    match read_files(alloc, shelf, &request) {
+    match request_of(words) {
+        Ok(request) => asked_problem(alloc, &request, shelf),
+        Err(fault) => Err(Unsolved::Stop(Stop::Words(fault))),
+    }
+}
+
+// The network that a request asks to solve.
+fn asked_problem<S: Shelf>(
+    alloc: Global,
+    request: &Request<'_>,
+    shelf: &mut S,
+) -> Result<Checked, Unsolved>
+    requires { request.now.horizon ≤ 400 }
+    ensures case { AskedCase (request_as request.now) (S.held shelf.old) (S.read_faults shelf.old) (S.read_faults shelf.new) result }
+    ensures held { S.held shelf.new ≡ S.held shelf.old }
+    ensures writes { S.write_faults shelf.new ≡ S.write_faults shelf.old }
+{
+    match read_files(alloc, shelf, request) {
         Ok(contents) => checked_of(alloc, &contents, request.horizon),
         Err(unsolved) => Err(unsolved),
     }
@@ -110,47 +127,4 @@ fn ranges_row(alloc: Global) -> Result<Row, NoMemory>
     ensures { IfOk result (λ row. row ≡ ranges_row) }
 {
     row_of(alloc, &["ranges", "1"])
-}
-
-// The line of a refusal.
-fn refusal_of(alloc: Global, stop: Stop) -> Result<Answer, NoMemory>
-    ensures { IfOk result (λ a. IsRefusal a.ending a.rows stop) }
-{
-    let mut rows = List::new(alloc);
-    rows.push(stop_row(alloc, stop)?)?;
-    Ok(Answer {
-        ending: ending_of(stop),
-        rows,
-    })
-}
-
-fn stop_row(alloc: Global, stop: Stop) -> Result<Row, NoMemory>
-    ensures { IfOk result (λ row. row ≡ stop_row stop) }
-{
-    match stop {
-        Stop::Words => row_of(alloc, &["words"]),
-        Stop::TooLong(file) => row_of(alloc, &["too long", file_text(file)]),
-        Stop::Refused => row_of(alloc, &["refused"]),
-    }
-}
-
-fn ending_of(stop: Stop) -> Ending
-    ensures { result ≡ ending_of stop }
-{
-    match stop {
-        Stop::Words => Ending::Words,
-        Stop::TooLong(_) => Ending::TooLong,
-        Stop::Refused => Ending::Refused,
-    }
-}
-
-/// The word for a file in printed lines.
-pub fn file_text(file: FileWord) -> &'static str
-    ensures { result.now ≡ file_text file }
-{
-    match file {
-        FileWord::Stages => "stages",
-        FileWord::Tables => "tables",
-        FileWord::Arcs => "arcs",
-    }
 }

@@ -2,7 +2,9 @@
 ghost use Rattle.std.specs.Prelude.{◌≡◌};
 ghost use Rattle.planner_top.specs.declared.stop.Unsolved.TheVariants as unsolved;
 
+use crate::word_fault::WordFault;
 use service_model::NoMemory;
+use stage_file::FileFault;
 
 /// A file that a run reads.
 #[derive(Clone, Copy, Debug, PartialEq, Eq)]
@@ -22,12 +24,12 @@ pub enum ReadStop {
     NoMemory,
 }
 
-/// Why a run is refused: by its words, by the length of a file, or by a rule on the files.
+/// Why a run is refused: by a rule on its words, by the length of a file, or by a rule on the files.
 #[derive(Clone, Copy, Debug, PartialEq, Eq)]
 pub enum Stop {
-    Words,
+    Words(WordFault),
     TooLong(FileWord),
-    Refused,
+    Refused(FileFault),
 }
 
 /// Why a run has no network to solve.

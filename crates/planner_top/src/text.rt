@@ -1,5 +1,5 @@
 // Rows as lines of text.
-ghost use Rattle.std.specs.Prelude.{◌≡◌, IfOk, map};
+ghost use Rattle.std.specs.Prelude.{◌≡◌, ◌++◌, IfOk, map};
 ghost use Rattle.std.specs.Fmt.{decimal};
 ghost use Rattle.csv.specs.Records.{fields_of};
 ghost use Rattle.csv.specs.Writing.{row_text, default_writer};
@@ -55,6 +55,16 @@ pub fn number(alloc: Global, value: u64) -> Result<Text, NoMemory>
 {
     let mut buffer = itoa::Buffer::new();
     List::copied(alloc, buffer.format(value).as_bytes())
+}
+
+/// A text with a number behind it.
+pub fn numbered(alloc: Global, text: &[u8], value: u64) -> Result<Text, NoMemory>
+    ensures { IfOk result (λ whole. whole ≡ text.now ++ decimal value) }
+{
+    let mut buffer = itoa::Buffer::new();
+    let mut whole = Vec::from_slice(alloc, text)?;
+    whole.extend_from_slice(buffer.format(value).as_bytes())?;
+    Ok(List::from_vec(whole))
 }
 
 /// A row of fixed words.

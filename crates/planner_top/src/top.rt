@@ -6,7 +6,8 @@ ghost use Rattle.planner_top.specs.Runs.{run_of, Follows, PartFollows, StatusCas
 ghost use Rattle.planner_top.specs.Headline.{Headline};
 
 use crate::answer::{Ending, Unanswered};
-use crate::solve::{answer_of, file_text};
+use crate::refusal::file_text;
+use crate::solve::answer_of;
 use crate::status::Status;
 use crate::stop::FileWord;
 use crate::text::{row_of, text_of};

@@ -1,0 +1,81 @@
+// The commands with their keys: what may stand on a command line.
+ghost use Rattle.std.specs.Prelude.{◌≡◌};
+ghost use Rattle.planner_top.specs.Commands.{command_named, required_keys, further_keys, key_text, value_kind, IsReadable};
+
+use service_model::MAX_HORIZON;
+
+/// What the first word asks for.
+#[derive(Clone, Copy, Debug, PartialEq, Eq)]
+pub enum Command {
+    Solve,
+}
+
+/// A key of a command. Two keys of different commands may have one text.
+#[derive(Clone, Copy, Debug, PartialEq, Eq)]
+pub enum Key {
+    Stages,
+    Tables,
+    Arcs,
+    Horizon,
+}
+
+/// What the value behind a key may be.
+#[derive(Clone, Copy, Debug, PartialEq, Eq)]
+pub enum ValueKind {
+    /// A file's name, which is not empty.
+    FileName,
+    /// A whole number from the first to the second.
+    WholeNumber(u64, u64),
+}
+
+/// The command that a word names.
+pub fn command_named(word: &str) -> Option<Command>
+    ensures { result ≡ command_named word.now }
+{
+    if word.as_bytes() == b"solve".as_slice() {
+        Some(Command::Solve)
+    } else {
+        None
+    }
+}
+
+/// The keys that a command requires, in the order in which a missing one is looked for.
+pub fn required_keys(command: Command) -> &'static [Key]
+    ensures { result.now ≡ required_keys command }
+{
+    match command {
+        Command::Solve => &[Key::Stages, Key::Tables, Key::Arcs, Key::Horizon],
+    }
+}
+
+/// The keys that a command takes beside those that it requires.
+pub fn further_keys(command: Command) -> &'static [Key]
+    ensures { result.now ≡ further_keys command }
+{
+    match command {
+        Command::Solve => &[],
+    }
+}
+
+/// The text of a key, which stands before the `=`.
+pub fn key_text(key: Key) -> &'static str
+    ensures { result.now ≡ key_text key }
+{
+    match key {
+        Key::Stages => "stages",
+        Key::Tables => "tables",
+        Key::Arcs => "arcs",
+        Key::Horizon => "horizon",
+    }
+}
+
+/// What a key's value may be.
+pub fn value_kind(key: Key) -> ValueKind
+    ensures value { result ≡ value_kind key }
+    ensures within { IsReadable result }
+{
+    match key {
+        Key::Stages | Key::Tables | Key::Arcs => ValueKind::FileName,
+        Key::Horizon => ValueKind::WholeNumber(0, MAX_HORIZON as u64),
+    }
+}
