@@ -22,7 +22,7 @@ struct Case<'a> {
     text: &'a str,
 }
 
-const CASES: [Case<'static>; 9] = [
+const CASES: [Case<'static>; 7] = [
     Case {
         name: "plain",
         horizon: "horizon=10",
@@ -39,7 +39,7 @@ const CASES: [Case<'static>; 9] = [
         tables: "table,x\n",
         arcs: "",
         status: Status::Refused,
-        text: "refused\n",
+        text: "refused,F8,stages,0,0\n",
     },
     Case {
         name: "infeasible",
@@ -66,7 +66,7 @@ const CASES: [Case<'static>; 9] = [
         tables: "table,x\nt,0,1,2,3\n",
         arcs: "supplier,customer,quantity\nA,B,1\nB,C,1\nC,A,1\nC,D,1\n",
         status: Status::Refused,
-        text: "refused\n",
+        text: "refused,ArcsNotYet,arcs,2,0\n",
     },
     Case {
         name: "the usual producer",
@@ -84,25 +84,7 @@ const CASES: [Case<'static>; 9] = [
         tables: "table,x\nt,0,10,14,17,20,22\n",
         arcs: "",
         status: Status::Refused,
-        text: "refused\n",
-    },
-    Case {
-        name: "an unknown table",
-        horizon: "horizon=10",
-        stages: "stage,lead,supply,least,most,bound,unit\nA,5,,,2,u,1\n",
-        tables: "table,x\nt,0,10,14,17,20,22\n",
-        arcs: "",
-        status: Status::Refused,
-        text: "refused\n",
-    },
-    Case {
-        name: "a fraction",
-        horizon: "horizon=10",
-        stages: "stage,lead,supply,least,most,bound,unit\nA,5.0,,,2,t,1\n",
-        tables: "table,x\nt,0,10,14,17,20,22\n",
-        arcs: "",
-        status: Status::Refused,
-        text: "refused\n",
+        text: "refused,BoundNotYet,stages,2,6\n",
     },
 ];
 
@@ -134,36 +116,117 @@ fn plain_files_are_solved_and_others_refused(rt: HostRuntime) -> Result<(), Fail
     Ok(())
 }
 
+// The records of three files, and the refusal.
+#[derive(Clone, Copy)]
+struct Refusal<'a> {
+    stages: &'a str,
+    tables: &'a str,
+    arcs: &'a str,
+    text: &'a str,
+}
+
+const TABLE: &str = "t,0,10,14,17,20,22\n";
+
+// A refusal of stages alone.
+fn of_stages<'a>(stages: &'a str, text: &'a str) -> Refusal<'a> {
+    Refusal {
+        stages,
+        tables: TABLE,
+        arcs: "",
+        text,
+    }
+}
+
 #[test]
-fn anything_but_the_five_words_is_refused(rt: HostRuntime) -> Result<(), Fail> {
+fn each_rule_on_files_is_printed_with_its_place(rt: HostRuntime) -> Result<(), Fail> {
     let alloc = rt.alloc();
-    let cases: [&[&str]; 8] = [
-        &[],
-        &["--help"],
-        &["solve", "stages=s", "tables=t", "arcs=a"],
-        &["solve", "stages=s", "tables=t", "arcs=a", "horizon=401"],
-        &["solve", "stages=s", "tables=t", "arcs=a", "horizon=5.0"],
-        &["solve", "stages=", "tables=t", "arcs=a", "horizon=5"],
-        &["solve", "tables=t", "stages=s", "arcs=a", "horizon=5"],
-        &[
-            "solve",
-            "stages=s",
-            "tables=t",
-            "arcs=a",
-            "horizon=5",
-            "cert=c",
-        ],
+    let cases = [
+        of_stages("A,5.0,,,2,t,1\n", "refused,F5,stages,2,2\n"),
+        of_stages("A,1001,,,2,t,1\n", "refused,F6,stages,2,2\n"),
+        of_stages("A,5,,,2,t\n", "refused,F3,stages,2,0\n"),
+        of_stages("A,5,,,2,t,1\nA,5,,,2,t,1\n", "refused,F9,stages,3,1\n"),
+        of_stages("A,5,11,,2,t,1\n", "refused,F11,stages,2,3\n"),
+        of_stages("A,5,,3,2,t,1\n", "refused,F10,stages,2,4\n"),
+        of_stages("A,5,,,2,normal:x,1\n", "refused,F17,stages,2,6\n"),
+        of_stages("A,5,,,2,u,1\n", "refused,F21,stages,2,6\n"),
+        of_stages("A,5,,,2,sum,1\nB,5,,,2,u,1\n", "refused,F21,stages,3,6\n"),
+        Refusal {
+            stages: "A,5,,,2,t,1\n",
+            tables: "t,0,10,14,17,20,22\nsum,1\n",
+            arcs: "",
+            text: "refused,F12,tables,3,1\n",
+        },
+        Refusal {
+            stages: "A,5,,,2,t,1\nB,5,,,2,u,1\n",
+            tables: TABLE,
+            arcs: "A,B,1\nA,A,1\nA,B,1\nA,Z,1\n",
+            text: "refused,F15,arcs,3,2\n",
+        },
     ];
-    for all in cases {
+    for case in &cases {
+        let stages = format!(in alloc; "stage,lead,supply,least,most,bound,unit\n{}", case.stages)?;
+        let tables = format!(in alloc; "table,x\n{}", case.tables)?;
+        let arcs = format!(in alloc; "supplier,customer,quantity\n{}", case.arcs)?;
+        let files = [stages.as_str(), tables.as_str(), arcs.as_str()];
+        let mut out = SureSink::new(alloc);
+        let status = run_over(alloc, "horizon=10", files, &mut out)?;
+        let got = (status, out.written());
+        assert_eq!(rt;
+            got,
+            (Status::Refused, case.text.as_bytes()),
+            "{}",
+            case.stages
+        );
+    }
+    Ok(())
+}
+
+#[test]
+fn each_rule_on_words_is_printed_with_its_place(rt: HostRuntime) -> Result<(), Fail> {
+    let alloc = rt.alloc();
+    let cases: [(&[&str], &str); 12] = [
+        (&[], "words,W1,0\n"),
+        (&["--help"], "words,W2,1\n"),
+        (&["solve", "stages=s"], "words,W6,2\n"),
+        (&["solve", "horizon=5", "arcs=a"], "words,W6,1\n"),
+        (&["solve", "stages=s", "stages=t"], "words,W5,3\n"),
+        (&["solve", "stages"], "words,W3,2\n"),
+        (&["solve", "stages=s", "cert=c"], "words,W4,3\n"),
+        (&["solve", "=s"], "words,W4,2\n"),
+        (&["solve", "stages="], "words,W7,2\n"),
+        (
+            &["solve", "stages=s", "tables=t", "arcs=a", "horizon=auto"],
+            "words,W7,5\n",
+        ),
+        (&["solve", "horizon=401"], "words,W7,2\n"),
+        (&["solve", "horizon=5.0"], "words,W7,2\n"),
+    ];
+    for (all, text) in cases {
         let words = words_of(alloc, all)?;
         let mut shelf = SureShelf::new(alloc);
         let mut out = SureSink::new(alloc);
         let status = run(alloc, &words, &mut shelf, &mut out);
-        assert_eq!(rt;
-            (status, out.written()),
-            (Status::Words, b"words\n".as_slice())
-        );
+        let got = (status, out.written());
+        assert_eq!(rt; got, (Status::Words, text.as_bytes()));
     }
+    Ok(())
+}
+
+#[test]
+fn keys_come_in_any_order_and_names_may_have_equals_signs(rt: HostRuntime) -> Result<(), Fail> {
+    let alloc = rt.alloc();
+    let words = words_of(
+        alloc,
+        &["solve", "horizon= 010 ", "arcs=a", "stages=s=1", "tables=t"],
+    )?;
+    let mut shelf = SureShelf::new(alloc);
+    shelf.with_file("s=1", CASES[0].stages.as_bytes())?;
+    shelf.with_file("t", CASES[0].tables.as_bytes())?;
+    shelf.with_file("a", b"")?;
+    let mut out = SureSink::new(alloc);
+    let status = run(alloc, &words, &mut shelf, &mut out);
+    let got = (status, out.written());
+    assert_eq!(rt; got, (Status::Done, CASES[0].text.as_bytes()));
     Ok(())
 }
 
