@@ -131,12 +131,34 @@ memory_is_other ending.Words same = cc
 memory_is_other ending.Refused same = cc
 memory_is_other ending.TooLong same = cc
 
+spent_is_other : IsOther status.Spent
+spent_is_other ending.Done same = cc
+spent_is_other ending.Infeasible same = cc
+spent_is_other ending.Words same = cc
+spent_is_other ending.Refused same = cc
+spent_is_other ending.TooLong same = cc
+
+accepted_is_other : IsOther status.NotAccepted
+accepted_is_other ending.Done same = cc
+accepted_is_other ending.Infeasible same = cc
+accepted_is_other ending.Words same = cc
+accepted_is_other ending.Refused same = cc
+accepted_is_other ending.TooLong same = cc
+
+feasible_is_other : IsOther status.NotFeasible
+feasible_is_other ending.Done same = cc
+feasible_is_other ending.Infeasible same = cc
+feasible_is_other ending.Words same = cc
+feasible_is_other ending.Refused same = cc
+feasible_is_other ending.TooLong same = cc
+
 answered_headline : (r : Run) (e : Ending) → r.held_after ≡ r.held → r.writes_after ≡ r.writes → r.status ≡ status_of e → Answered r e → Headline r
 answered_headline r e shelf writes same answered = record {
   shelf = shelf;
   writes = writes;
   later = (omega (arith, answered.0), omega (arith, answered.1));
   complete = λ sure. (e, same);
+  never = (λ also. absurd (spent_is_other e (sym same ∙ also)), λ also. absurd (accepted_is_other e (sym same ∙ also)), λ also. absurd (feasible_is_other e (sym same ∙ also)));
   answer = λ other also. subst (λ (x : Ending). Answered r x) (one_ending other e (sym also ∙ same)) answered;
   exact = λ other m also told.
       subst (λ (x : Ending). Exactly (problem_of r.words m) x) (one_ending other e (sym also ∙ same)) (told_exactly r.words r.held m e answered.2.0 told answered.2.1);
@@ -157,6 +179,7 @@ headline_by r status.ReadFault shelf writes same case = record {
   writes = writes;
   later = (case.0, omega (arith, case.1.1));
   complete = λ sure. absurd (sure.reads case.1.0);
+  never = (λ also. cc, λ also. cc, λ also. cc);
   answer = λ e also. absurd (fault_is_other e (sym also ∙ same));
   exact = λ e m also told. absurd (fault_is_other e (sym also ∙ same));
   read_fault = λ also. case.1;
@@ -168,6 +191,7 @@ headline_by r status.WriteFault shelf writes same case = record {
   writes = writes;
   later = (case.0, case.1);
   complete = λ sure. absurd (sure.writes case.2);
+  never = (λ also. cc, λ also. cc, λ also. cc);
   answer = λ e also. absurd (write_is_other e (sym also ∙ same));
   exact = λ e m also told. absurd (write_is_other e (sym also ∙ same));
   read_fault = λ also. cc;
@@ -179,6 +203,7 @@ headline_by r status.NoMemory shelf writes same case = record {
   writes = writes;
   later = (case.0, case.1);
   complete = λ sure. absurd (sure.memory same);
+  never = (λ also. cc, λ also. cc, λ also. cc);
   answer = λ e also. absurd (memory_is_other e (sym also ∙ same));
   exact = λ e m also told. absurd (memory_is_other e (sym also ∙ same));
   read_fault = λ also. cc;
@@ -195,9 +220,9 @@ headline_from r shelf writes case = headline_by r r.status shelf writes refl cas
 -- what is left of a run whose read failed
 pub fault_case : (r : Run) (word : FileWord) (s : Status) → r.reads ≤ r.reads_after → Rose r.reads r.reads_after → IsOk (asked_of r.words) → FaultCase word r.written r.written_after r.faults r.faults_after s → StatusCase r s
 fault_case r word status.ReadFault later rose asked case = (later, (rose, case.0, asked, (word, case.1)))
-fault_case r word status.WriteFault later rose asked case = (later, case.0, case.1, inr (fault_row word ∷ [], inr (word, refl), case.2))
+fault_case r word status.WriteFault later rose asked case = (later, case.0, case.1, inr (fault_row word ∷ [], inr (rose, asked, (word, refl)), case.2))
 fault_case r word status.NoMemory later rose asked (faults, inl same) = (later, faults, inl same)
-fault_case r word status.NoMemory later rose asked (faults, inr part) = (later, faults, inr (fault_row word ∷ [], inr (word, refl), part))
+fault_case r word status.NoMemory later rose asked (faults, inr part) = (later, faults, inr (fault_row word ∷ [], inr (rose, asked, (word, refl)), part))
 fault_case r word status.Done later rose asked case = absurd case
 fault_case r word status.Infeasible later rose asked case = absurd case
 fault_case r word status.Spent later rose asked case = absurd case

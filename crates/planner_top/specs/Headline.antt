@@ -38,7 +38,9 @@ pub record Headline (r : Run) : Type 0 where
   pub later : (r.reads ≤ r.reads_after) × (r.faults ≤ r.faults_after)
   -- where no call failed and memory sufficed there is an answer
   pub complete : IsSure r → (e : Ending) × (r.status ≡ status_of e)
-  -- an answer is true of the words and files, its lines follow what was written, and no call failed
+  -- no other status comes, whatever failed
+  pub never : (r.status ≢ status.Spent) × (r.status ≢ status.NotAccepted) × (r.status ≢ status.NotFeasible)
+  -- an answer is true of the words and files where the shelf tells, its lines follow what was written, and no call failed
   pub answer : (e : Ending) → r.status ≡ status_of e → Answered r e
   -- and it comes exactly where its cause is, on a shelf that tells what it holds
   pub exact : (e : Ending) (m : Held) → r.status ≡ status_of e → r.held ≡ Some m → Exactly (problem_of r.words m) e

@@ -70,9 +70,11 @@ FailedRead r =
     Rose r.reads r.reads_after × (r.faults_after ≡ r.faults) × IsOk (asked_of r.words)
     × ((word : FileWord) × Follows r.written (lines_of (fault_row word ∷ [])) r.written_after)
 
--- the rows that a run prints: an answer, or that a file could not be read
+-- the rows that a run prints: an answer where no read failed, or that a file could not be read where one failed
 abbrev pub IsPrinted : Run → List (List (List ℕ)) → Type 0
-IsPrinted r rows = ((e : Ending) × IsAnswer r.words r.held e rows) ⊎ ((word : FileWord) × (rows ≡ fault_row word ∷ []))
+IsPrinted r rows =
+    ((r.reads_after ≡ r.reads) × ((e : Ending) × IsAnswer r.words r.held e rows))
+    ⊎ (Rose r.reads r.reads_after × IsOk (asked_of r.words) × ((word : FileWord) × (rows ≡ fault_row word ∷ [])))
 
 -- nothing was written, or the front of what a run prints
 abbrev pub PartPrinted : Run → Type 0
