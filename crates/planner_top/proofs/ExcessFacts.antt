@@ -1,12 +1,11 @@
 -- The excess demands of plain files are within their ranges.
-use Rattle.std.proofs.Common.{◌≡◌, ℕ, zero, suc, ◌+◌, ◌*◌, ◌<◌, ◌≤◌, Bool, true, false, List, [], ◌∷◌, length, get_or, take, map, Option, Some, None, refl, sym, ◌∙◌, arith, min}
-use Rattle.std.specs.List.{All, list_all, position}
+use Rattle.std.proofs.Common.{◌≡◌, ℕ, ◌+◌, ◌<◌, ◌≤◌, true, List, [], length, get_or, take, Option, Some, None, refl, arith, min}
+use Rattle.std.specs.List.{All}
 use Rattle.std.specs.Option.{IfSome, option_map, unwrap_or, is_some}
 use Rattle.std.specs.Str.{bytes_eq}
-use Rattle.std.proofs.lemmas.List.{length-map, length-take, get_or-map, get_or_default}
+use Rattle.std.proofs.lemmas.List.{length-map, length-take}
 use Rattle.std.proofs.lemmas.List.Elements.{All-take}
 use Rattle.std.proofs.lemmas.List.Quantifiers.{position-Some}
-use Rattle.std.proofs.lemmas.List.Sums.{AllPass-from_list_all}
 use Rattle.stage_file.specs.declared.limits.TheConstants.{MAX_EXCESS}
 use Rattle.stage_file.specs.declared.stages.StageRow.{StageRow}
 use Rattle.stage_file.specs.declared.stages.Bound.{Bound}

@@ -1,5 +1,5 @@
 -- The promise of the top call follows from what each status says.
-use Rattle.std.proofs.Common.{◌≡◌, ◌≤◌, ◌↔◌, ℕ, List, Option, Some, None, Result, Ok, Err, [], ◌∷◌, refl, sym, ◌∙◌, subst, arith, inl, inr}
+use Rattle.std.proofs.Common.{◌≡◌, ◌≤◌, ℕ, List, Option, Some, Result, Ok, Err, [], ◌∷◌, refl, sym, ◌∙◌, subst, arith, inl, inr}
 use Rattle.std.specs.Option.{IfSome}
 use Rattle.std.specs.Result.{MatchResult, IsOk}
 use Rattle.gsm_outside.specs.Held.{Held}
@@ -9,8 +9,8 @@ use Rattle.service_model.specs.Plans.{Least, Empty}
 use Rattle.planner_top.specs.Asked.{asked_of}
 use Rattle.planner_top.specs.Answers.{problem_of, IsSolution, IsRefusal, ending_of, IsAnswer}
 use Rattle.planner_top.specs.Texts.{fault_row}
-use Rattle.planner_top.specs.Runs.{Run, Answered, FailedRead, PartPrinted, status_of, StatusCase, FaultCase}
-use Rattle.planner_top.specs.Headline.{Exactly, IsSure, Headline}
+use Rattle.planner_top.specs.Runs.{Run, Answered, status_of, StatusCase, FaultCase}
+use Rattle.planner_top.specs.Headline.{Exactly, Headline}
 use Rattle.planner_top.specs.declared.checked.Checked.{Checked}
 use Rattle.planner_top.specs.declared.stop.FileWord.{FileWord}
 use Rattle.planner_top.specs.declared.stop.Stop.{Stop}

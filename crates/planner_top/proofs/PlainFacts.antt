@@ -1,12 +1,10 @@
 -- Stages and the tables that their bounds name, one more.
-use Rattle.std.proofs.Common.{◌≡◌, ℕ, ◌+◌, ◌<◌, ◌≤◌, Bool, true, false, List, [], ◌∷◌, ◌++◌, length, take, get_or, map, Option, Some, None, refl, sym, ap, ◌∙◌, arith}
-use Rattle.std.specs.List.{list_all}
+use Rattle.std.proofs.Common.{◌≡◌, ℕ, ◌+◌, ◌<◌, List, [], ◌∷◌, ◌++◌, length, take, get_or, map, refl, sym, ap, ◌∙◌}
 use Rattle.std.proofs.lemmas.List.{map_more, get_or-map}
-use Rattle.std.proofs.lemmas.List.Folds.{list_all_more, list_all_at}
 use Rattle.stage_file.specs.declared.stages.StageRow.{StageRow}
 use Rattle.stage_file.specs.declared.raw.RawNet.{RawNet}
 use Rattle.service_model.specs.declared.stage.Stage.{Stage}
-use Rattle.planner_top.specs.Checked.{excess_by, has_table, excess_of, stage_with, stage_from}
+use Rattle.planner_top.specs.Checked.{excess_of, stage_with, stage_from}
 
 -- the excess demand that is listed for a stage
 pub excess_listed : (raw : RawNet) (lists : List (List ℕ)) (k : ℕ) (s : StageRow) (x : List ℕ) → lists ≡ map (excess_of raw) raw.stages → k < length raw.stages → get_or raw.stages k s ≡ s → get_or lists k [] ≡ x → x ≡ excess_of raw s

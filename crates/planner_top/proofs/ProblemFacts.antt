@@ -1,11 +1,11 @@
 -- What is known of the network that a request asks to solve, once their files are read.
-use Rattle.std.proofs.Common.{◌≡◌, ℕ, ◌≤◌, List, Option, Some, None, Result, Ok, Err, refl, subst, arith}
+use Rattle.std.proofs.Common.{◌≡◌, ℕ, Option, Some, None, Result, Ok, Err, refl, subst, arith}
 use Rattle.std.specs.Option.{IfSome}
 use Rattle.stage_file.specs.declared.fault.FileFault.{FileFault}
 use Rattle.gsm_outside.specs.Held.{Held}
 use Rattle.planner_top.specs.Asked.{Asked}
 use Rattle.planner_top.specs.Contents.{too_long_of, contents_of}
-use Rattle.planner_top.specs.Checked.{files_in, checked_of, IsChecked, CheckedCase}
+use Rattle.planner_top.specs.Checked.{files_in, checked_of, CheckedCase}
 use Rattle.planner_top.specs.Answers.{asked_problem}
 use Rattle.planner_top.specs.Problems.{AskedCase}
 use Rattle.planner_top.specs.declared.contents.Contents.{Contents}

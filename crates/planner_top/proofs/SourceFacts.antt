@@ -1,24 +1,23 @@
 -- The network of plain files keeps all limits.
-use Rattle.std.proofs.Common.{◌≡◌, ◌≢◌, ℕ, zero, suc, ◌+◌, ◌*◌, ◌<◌, ◌≤◌, Bool, true, false, List, [], ◌∷◌, length, get_or, take, map, Option, Some, None, refl, sym, ◌∙◌, ap, subst, arith, max, cond, ltb}
+use Rattle.std.proofs.Common.{◌≡◌, ℕ, zero, suc, ◌*◌, ◌<◌, ◌≤◌, true, List, [], ◌∷◌, length, get_or, map, Some, refl, ◌∙◌, subst, arith}
 use Rattle.std.specs.List.{All, list_all}
-use Rattle.std.proofs.lemmas.List.{length-map, get_or-map, get_or_default}
+use Rattle.std.proofs.lemmas.List.{length-map, get_or-map}
 use Rattle.std.proofs.lemmas.List.Sums.{AllPass-from_list_all}
 use Rattle.std.proofs.lemmas.Bool.Decides.{nat_tests}
 use Rattle.std.proofs.Math.Nat.{mul-le-mul_left, mul-le-mul_right}
-use Rattle.service_model.specs.declared.limits.TheConstants.{INF, MAX_HORIZON, MAX_STAGES, MAX_PLAN_COST}
 use Rattle.service_model.specs.declared.stage.Stage.{Stage}
 use Rattle.service_model.specs.declared.stage.SupplyArc.{SupplyArc}
 use Rattle.service_model.specs.declared.faults.NetworkFault.{NetworkFault}
 use Rattle.service_model.proofs.ValidFacts.{valid_has_no_fault}
 use Rattle.stage_file.specs.declared.arcs.ArcRow.{ArcRow}
-use Rattle.service_model.specs.Net.{Net, net_of, stage_at, no_stage, arc_in}
+use Rattle.service_model.specs.Net.{Net, net_of, stage_at, no_stage}
 use Rattle.service_model.specs.Search.{sum_below}
 use Rattle.service_model.specs.Faults.{StageWithin, IsNetwork, IsFirstFault, top_of, tops_below}
 use Rattle.stage_file.specs.declared.limits.TheConstants.{MAX_EXCESS, MAX_UNIT}
 use Rattle.stage_file.specs.declared.stages.StageRow.{StageRow}
 use Rattle.stage_file.specs.declared.stages.Bound.TheVariants.{Sum}
 use Rattle.stage_file.specs.declared.raw.RawNet.{RawNet}
-use Rattle.stage_file.specs.Stages.{StageRowWithin, AreStageRows}
+use Rattle.stage_file.specs.Stages.{StageRowWithin}
 use Rattle.stage_file.specs.Raw.{IsRawNet}
 use Rattle.planner_top.specs.Checked.{has_table, excess_of, stage_with, stage_from, arc_from, network_from}
 use Rattle.planner_top.proofs.ExcessFacts.{IsExcess, excess_is}

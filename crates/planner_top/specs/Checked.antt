@@ -21,7 +21,6 @@ use Rattle.stage_file.specs.Raw.{raw_fault, raw_of}
 use Rattle.planner_top.specs.declared.not_yet.TheConstants.{BOUND_NOT_YET, ARCS_NOT_YET}
 use Rattle.planner_top.specs.declared.contents.Contents.{Contents}
 use Rattle.planner_top.specs.declared.checked.Checked.{Checked}
-use Rattle.planner_top.specs.declared.stop.Stop.{Stop}
 use Rattle.planner_top.specs.declared.stop.Stop.TheVariants as stop
 use Rattle.planner_top.specs.declared.stop.Unsolved.{Unsolved}
 use Rattle.planner_top.specs.declared.stop.Unsolved.TheVariants as unsolved

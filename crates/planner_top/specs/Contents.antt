@@ -10,7 +10,6 @@ use Rattle.planner_top.specs.declared.stop.FileWord.{FileWord}
 use Rattle.planner_top.specs.declared.stop.FileWord.TheVariants as file
 use Rattle.planner_top.specs.declared.stop.ReadStop.{ReadStop}
 use Rattle.planner_top.specs.declared.stop.ReadStop.TheVariants as read
-use Rattle.planner_top.specs.declared.stop.Stop.{Stop}
 use Rattle.planner_top.specs.declared.stop.Stop.TheVariants as stop
 use Rattle.planner_top.specs.declared.stop.Unsolved.{Unsolved}
 use Rattle.planner_top.specs.declared.stop.Unsolved.TheVariants as unsolved

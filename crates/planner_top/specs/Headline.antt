@@ -1,11 +1,10 @@
 -- The promise of the top call.
-use Rattle.std.specs.Prelude.{◌≡◌, ◌≢◌, ◌≤◌, ◌↔◌, ℕ, List, Option, Some, None, Result, Ok, Err}
+use Rattle.std.specs.Prelude.{◌≡◌, ◌≢◌, ◌≤◌, ◌↔◌, Some, Result, Ok, Err}
 use Rattle.stage_file.specs.declared.fault.FileFault.{FileFault}
 use Rattle.gsm_outside.specs.Held.{Held}
 use Rattle.gsm_outside.specs.Causes.{Rose}
 use Rattle.service_model.specs.declared.plan.Plan.{Plan}
 use Rattle.service_model.specs.Plans.{Least, Empty}
-use Rattle.planner_top.specs.Asked.{asked_of}
 use Rattle.planner_top.specs.Answers.{problem_of}
 use Rattle.planner_top.specs.Runs.{Run, Answered, FailedRead, PartPrinted, status_of}
 use Rattle.planner_top.specs.declared.checked.Checked.{Checked}

@@ -6,7 +6,6 @@ use Rattle.planner_top.specs.Asked.{Asked, asked_of}
 use Rattle.planner_top.specs.Checked.{IsChecked}
 use Rattle.planner_top.specs.Answers.{asked_problem, problem_of, IsAnswer}
 use Rattle.planner_top.specs.declared.checked.Checked.{Checked}
-use Rattle.planner_top.specs.declared.stop.FileWord.{FileWord}
 use Rattle.planner_top.specs.declared.stop.Stop.{Stop}
 use Rattle.planner_top.specs.declared.stop.Stop.TheVariants as stop
 use Rattle.planner_top.specs.declared.stop.Unsolved.{Unsolved}

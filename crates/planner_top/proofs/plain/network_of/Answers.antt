@@ -1,4 +1,4 @@
-use Rattle.std.proofs.Common.{◌≡◌, [], Some, rules, sym, ◌∙◌}
+use Rattle.std.proofs.Common.{Some}
 use Rattle.service_model.specs.Net.{net_of}
 use Rattle.service_model.specs.Faults.{IsFirstFault}
 use Rattle.planner_top.proofs.SourceFacts.{source_has_no_fault}

@@ -1,4 +1,4 @@
-use Rattle.std.proofs.Common.{◌≡◌, ◌<◌, [], length, get_or, sym, ◌∙◌, ap, rules, arith}
+use Rattle.std.proofs.Common.{◌≡◌, ◌<◌, [], length, ◌∙◌, rules}
 use Rattle.planner_top.specs.Checked.{excess_of}
 use Rattle.planner_top.proofs.PlainFacts.{excess_listed, stages_more}
 use Rattle.planner_top.proofs.ExcessFacts.{excess_small}

@@ -1,4 +1,4 @@
-use Rattle.std.proofs.Common.{◌≡◌, ◌<◌, length, rules}
+use Rattle.std.proofs.Common.{◌<◌, length, rules}
 use Rattle.planner_top.proofs.TableNames.{table_is_new}
 use Rattle.planner_top.proofs.plain.table_names.Goals as goal
 

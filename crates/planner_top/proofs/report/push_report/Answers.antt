@@ -1,4 +1,3 @@
-use Rattle.std.proofs.Common.{◌≡◌, ◌++◌, ◌∷◌, [], rules, ◌∙◌}
 use Rattle.planner_top.specs.Texts.{report_row}
 use Rattle.planner_top.proofs.ReportFacts.{rows_more}
 use Rattle.planner_top.proofs.report.push_report.Goals as goal

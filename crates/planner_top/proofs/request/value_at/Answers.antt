@@ -1,4 +1,4 @@
-use Rattle.std.proofs.Common.{◌≡◌, ◌∙◌, Some, None, sym, ap}
+use Rattle.std.proofs.Common.{◌∙◌, Some, None, sym, ap}
 use Rattle.planner_top.specs.Words.{value_in}
 use Rattle.planner_top.proofs.WordFacts.{value_found, nothing_in}
 use Rattle.planner_top.proofs.request.value_at.Goals as goal

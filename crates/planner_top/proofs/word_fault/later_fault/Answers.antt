@@ -1,6 +1,4 @@
-use Rattle.std.proofs.Common.{◌≡◌, Some, None, take, sym, ap, ◌∙◌}
-use Rattle.service_model.specs.Search.{first_of}
-use Rattle.planner_top.specs.Words.{texts, later_rules}
+use Rattle.std.proofs.Common.{sym, ◌∙◌}
 use Rattle.planner_top.proofs.WordFacts.{fails_here, holds_here}
 use Rattle.planner_top.proofs.word_fault.later_fault.Goals as goal
 

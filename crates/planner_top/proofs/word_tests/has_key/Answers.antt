@@ -1,4 +1,4 @@
-use Rattle.std.proofs.Common.{◌≡◌, ◌∙◌, string_bytes}
+use Rattle.std.proofs.Common.{◌∙◌, string_bytes}
 use Rattle.planner_top.specs.Words.{is_keyed, has_key}
 use Rattle.planner_top.proofs.WordFacts.{any_mapped}
 use Rattle.planner_top.proofs.word_tests.has_key.Goals as goal
