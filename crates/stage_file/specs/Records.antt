@@ -36,5 +36,5 @@ field_in fields column = slice_index_or fields (column - 1) []
 
 -- rows and fields are few enough to be numbered
 pub record AreCountable (rows : List (List (List ℕ))) : Type 0 where
-  pub few_rows : length rows < 2 ^ 32 - 1
-  pub short_rows : All (λ row. length row < 2 ^ 32 - 1) rows
+  pub few_rows : length rows < 2 ^ 32
+  pub short_rows : All (λ row. length row < 2 ^ 32) rows

@@ -14,4 +14,4 @@ all_seen records = map seen_as records
 
 -- the columns of each record can be numbered
 abbrev pub AreShort : List Record → Type 0
-AreShort records = All (λ r. length r.fields.now < 2 ^ 32 - 1) records
+AreShort records = All (λ r. length r.fields.now < 2 ^ 32) records

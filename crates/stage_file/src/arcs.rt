@@ -90,7 +90,7 @@ fn arc_of(
     earlier: &[Record<'_>],
     ends: &AllEnds,
 ) -> Result<ArcRow, ReadFault>
-    requires short { length «record».now.fields.now < 2 ^ 32 - 1 }
+    requires short { length «record».now.fields.now < 2 ^ 32 }
     requires few { length names.now < 2 ^ 32 }
     requires ends { HaveEnds names.now (all_seen earlier.now) ends.now }
     ensures { Reads (first_of (arc_rules names.now (all_seen earlier.now) (seen_as «record».now))) (arc_row_of names.now (seen_as «record».now)) result }
@@ -123,7 +123,7 @@ fn stage_in(names: &Names, fields: &[Text], column: usize) -> u32
 }
 
 fn field_fault(record: &Record<'_>) -> Option<FileFault>
-    requires { length «record».now.fields.now < 2 ^ 32 - 1 }
+    requires { length «record».now.fields.now < 2 ^ 32 }
     ensures { result ≡ first_of (arc_field_rules (seen_as «record».now)) }
 {
     let number = record.number;

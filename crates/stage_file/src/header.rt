@@ -25,7 +25,7 @@ pub fn header_fault(file: FileKind, word: &[u8], records: &[Record<'_>]) -> Opti
 
 fn fault_of(file: FileKind, word: &[u8], header: &Record<'_>) -> Option<FileFault>
     requires lower { str_to_ascii_lowercase word.now ≡ word.now }
-    requires short { length header.now.fields.now < 2 ^ 32 - 1 }
+    requires short { length header.now.fields.now < 2 ^ 32 }
     ensures { result ≡ first_of (header_rules file word.now (seen_as header.now)) }
 {
     let number = header.number;

@@ -54,7 +54,7 @@ fn no_text_place(fields: &[Text]) -> Option<usize>
 /// Each field is text.
 #[tactic(auto, unfolding(crate::specs::Faults::fails_from))]
 pub fn text_fault(file: FileKind, record: &Record<'_>) -> Option<FileFault>
-    requires { length «record».now.fields.now < 2 ^ 32 - 1 }
+    requires { length «record».now.fields.now < 2 ^ 32 }
     ensures { result ≡ text_rule file (seen_as «record».now) }
 {
     fails_at(

@@ -77,7 +77,7 @@ fn plan_fault(
     earlier: &[Record<'_>],
     times: &List<Option<Times>>,
 ) -> Option<FileFault>
-    requires short { length «record».now.fields.now < 2 ^ 32 - 1 }
+    requires short { length «record».now.fields.now < 2 ^ 32 }
     requires times { times.now ≡ all_times names.now (all_seen earlier.now) }
     ensures { result ≡ first_of (plan_rules names.now (all_seen earlier.now) (seen_as «record».now)) }
 {

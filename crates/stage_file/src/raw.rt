@@ -1,5 +1,6 @@
 // The records of the three files of a network.
 ghost use Rattle.std.specs.Prelude.{◌≤◌, IfOk};
+ghost use Rattle.service_model.specs.declared.limits.TheConstants.{MAX_HORIZON};
 
 use crate::{ArcRow, ReadFault, Rows, StageRow, TableRow, read_arcs, read_stages, read_tables};
 use service_model::List;
@@ -27,7 +28,7 @@ ghost use Rattle.stage_file.specs.Faults.{Reads};
 
 /// The records of the three files, or the first failing rule: of the stage file, then the table file, then the arc file.
 pub fn raw_net(alloc: Global, files: &Files, horizon: u16) -> Result<RawNet, ReadFault>
-    requires short { horizon ≤ 400 }
+    requires short { horizon ≤ MAX_HORIZON }
     requires countable { AreFiles files.now }
     ensures value { Reads (raw_fault horizon files.now) (raw_of horizon files.now) result }
     ensures within { IfOk result IsRawNet }

@@ -33,7 +33,7 @@ pub fn records_of<'a>(alloc: Global, rows: &'a Rows) -> Result<Vec<Record<'a>>, 
 // Keeps a row if there is something in it.
 #[tactic(auto, unfolding(crate::specs::Records::kept_at, crate::specs::Rows::without_blank_end))]
 fn keep<'a>(records: &mut Vec<Record<'a>>, number: u32, row: &'a [Text]) -> Result<(), NoMemory>
-    requires { length row.now < 2 ^ 32 - 1 }
+    requires { length row.now < 2 ^ 32 }
     ensures value { OnOk result (all_seen records.new.items ≡ all_seen records.old.items ++ kept_at number row.now) }
     ensures some { OnOk result (All (λ r. 0 < length r.fields.now) records.old.items → All (λ r. 0 < length r.fields.now) records.new.items) }
     ensures short { OnOk result (AreShort records.old.items → AreShort records.new.items) }

@@ -21,7 +21,7 @@ pub const TIME: u64 = MAX_TIME as u64;
 
 /// The first rule that fails on the fields of a record by themselves.
 pub fn field_fault(record: &Record<'_>) -> Option<FileFault>
-    requires { length «record».now.fields.now < 2 ^ 32 - 1 }
+    requires { length «record».now.fields.now < 2 ^ 32 }
     ensures { result ≡ first_of (stage_field_rules (seen_as «record».now)) }
 {
     let number = record.number;

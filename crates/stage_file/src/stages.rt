@@ -1,5 +1,6 @@
 // Stage files.
 ghost use Rattle.std.specs.Prelude.{◌≡◌, ◌≤◌, ◌<◌, ◌-◌, ◌^◌, false, length, map, IfOk};
+ghost use Rattle.service_model.specs.declared.limits.TheConstants.{MAX_HORIZON};
 ghost use Rattle.std.specs.List.{list_any};
 ghost use Rattle.std.specs.Str.{bytes_eq};
 ghost use Rattle.service_model.specs.Search.{first_of, first_below};
@@ -50,10 +51,10 @@ pub struct StageRow {
 ghost use Rattle.stage_file.specs.Stages.{bound_in, stage_row_of, stage_rules, stage_fault_at, stage_file_fault, stage_rows_of, AreStageRows};
 ghost use Rattle.stage_file.specs.Faults.{Reads};
 
-/// The stages of a stage file, or its first failing rule. The horizon is at most 400.
+/// The stages of a stage file, or its first failing rule.
 #[tactic(auto, using(crate::proofs::StageLimits::read_within))]
 pub fn read_stages(alloc: Global, rows: &Rows, horizon: u16) -> Result<List<StageRow>, ReadFault>
-    requires short { horizon ≤ 400 }
+    requires short { horizon ≤ MAX_HORIZON }
     requires countable { AreCountable rows.now }
     ensures value { Reads (stage_file_fault horizon rows.now) (stage_rows_of horizon rows.now) result }
     ensures within { IfOk result (AreStageRows horizon) }
@@ -62,7 +63,7 @@ pub fn read_stages(alloc: Global, rows: &Rows, horizon: u16) -> Result<List<Stag
 }
 
 fn stages_in(alloc: Global, rows: &Rows, horizon: u16) -> Result<List<StageRow>, ReadFault>
-    requires short { horizon ≤ 400 }
+    requires short { horizon ≤ MAX_HORIZON }
     requires countable { AreCountable rows.now }
     ensures { Reads (stage_file_fault horizon rows.now) (stage_rows_of horizon rows.now) result }
 {
@@ -82,7 +83,7 @@ fn stages_below(
     records: &[Record<'_>],
     horizon: u16,
 ) -> Result<List<StageRow>, ReadFault>
-    requires short { horizon ≤ 400 }
+    requires short { horizon ≤ MAX_HORIZON }
     requires countable { AreShort records.now }
     ensures { Reads (first_below (stage_fault_at horizon (all_seen records.now)) (length (all_seen records.now))) (map (stage_row_of horizon) (all_seen records.now)) result }
 {
@@ -103,8 +104,8 @@ fn stage_of(
     names: &Names,
     horizon: u16,
 ) -> Result<StageRow, ReadFault>
-    requires short { horizon ≤ 400 }
-    requires countable { length «record».now.fields.now < 2 ^ 32 - 1 }
+    requires short { horizon ≤ MAX_HORIZON }
+    requires countable { length «record».now.fields.now < 2 ^ 32 }
     requires names { names.now ≡ names_in (all_seen earlier.now) }
     ensures value { Reads (first_of (stage_rules horizon (all_seen earlier.now) (seen_as «record».now))) (stage_row_of horizon (seen_as «record».now)) result }
     ensures new { IfOk result (λ stage. list_any (bytes_eq (name_in (seen_as «record».now))) names.now ≡ false) }
@@ -121,7 +122,7 @@ fn stage_of(
 // The stage of a record, its blanks filled.
 #[tactic(auto, unfolding(crate::specs::Stages::stage_row_of))]
 fn stage_row(alloc: Global, record: &Record<'_>, horizon: u16) -> Result<StageRow, NoMemory>
-    requires { horizon ≤ 400 }
+    requires { horizon ≤ MAX_HORIZON }
     ensures { IfOk result (λ stage. stage ≡ stage_row_of horizon (seen_as «record».now)) }
 {
     let fields = record.fields;

@@ -71,7 +71,7 @@ fn table_of(
     earlier: &[Record<'_>],
     names: &Names,
 ) -> Result<TableRow, ReadFault>
-    requires short { length «record».now.fields.now < 2 ^ 32 - 1 }
+    requires short { length «record».now.fields.now < 2 ^ 32 }
     requires names { names.now ≡ names_in (all_seen earlier.now) }
     ensures value { Reads (first_of (table_rules (all_seen earlier.now) (seen_as «record».now))) (table_row_of (seen_as «record».now)) result }
     ensures new { IfOk result (λ table. list_any (bytes_eq (name_in (seen_as «record».now))) names.now ≡ false) }
@@ -92,7 +92,7 @@ fn table_of(
 }
 
 fn field_fault(record: &Record<'_>) -> Option<FileFault>
-    requires { length «record».now.fields.now < 2 ^ 32 - 1 }
+    requires { length «record».now.fields.now < 2 ^ 32 }
     ensures { result ≡ first_of (table_field_rules (seen_as «record».now)) }
 {
     let number = record.number;
@@ -138,7 +138,7 @@ fn entries_in<'a>(record: &Record<'a>) -> &'a [Text]
 }
 
 fn entries_of(alloc: Global, record: &Record<'_>) -> Result<List<u64>, ReadFault>
-    requires { length «record».now.fields.now < 2 ^ 32 - 1 }
+    requires { length «record».now.fields.now < 2 ^ 32 }
     ensures { Reads (first_of (entry_rules (seen_as «record».now))) (map (number_or 0 MAX_EXCESS) (entries_in (seen_as «record».now))) result }
 {
     let fields = entries_in(record);
@@ -163,7 +163,7 @@ fn entry_in(field: &[u8]) -> Option<u64>
 // The first rule that fails on the entries, where the entry at a place is the first that gives no number.
 #[tactic(auto, using(crate::proofs::TableFacts::number_first, crate::proofs::TableFacts::range_first))]
 fn entry_fault(record: &Record<'_>, place: usize) -> FileFault
-    requires short { length «record».now.fields.now < 2 ^ 32 - 1 }
+    requires short { length «record».now.fields.now < 2 ^ 32 }
     requires within { place < length (entries_in (seen_as «record».now)) }
     requires before { All (λ f. is_past MAX_EXCESS f ≡ false) (take place (entries_in (seen_as «record».now))) }
     requires fails { fails_as_entry (slice_index_or (entries_in (seen_as «record».now)) place []) ≡ true }

@@ -1,4 +1,5 @@
 ghost use Rattle.std.specs.Prelude.{◌≤◌, IfOk};
+ghost use Rattle.service_model.specs.declared.limits.TheConstants.{MAX_HORIZON};
 ghost use Rattle.stage_file.specs.Records.{AreCountable};
 
 // Files of the worked cases, and the smallest rows that show each rule on stage and table files.
@@ -35,7 +36,7 @@ fn stages_of(
     records: &[u8],
     horizon: u16,
 ) -> Result<Result<List<StageRow>, ReadFault>, NoMemory>
-    requires { horizon ≤ 400 }
+    requires { horizon ≤ MAX_HORIZON }
 {
     let rows = rows_below(alloc, header, records)?;
     Ok(read_stages(alloc, &rows, horizon))
