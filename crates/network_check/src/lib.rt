@@ -1,0 +1,10 @@
+//! From the files of a network, or their records, to the network, or the first rule that fails.
+#![tactic(auto)]
+
+mod checked;
+mod network;
+mod not_yet;
+
+pub use checked::Checked;
+pub use network::{check, check_records, topological};
+pub use not_yet::BOUND_NOT_YET;
