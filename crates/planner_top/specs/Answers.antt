@@ -1,40 +1,35 @@
 -- What a run answers to its words and files, where no call on the outside failed and memory sufficed.
-use Rattle.std.specs.Prelude.{◌≡◌, ◌↔◌, ℕ, List, [], ◌∷◌, Option, Some, None, Result, Ok, Err, IsErr, MatchResult, IfSome}
-use Rattle.stage_file.specs.declared.fault.FileFault.{FileFault}
-use Rattle.service_model.specs.Plans.{Least, Empty}
+use Rattle.std.specs.Prelude.{◌≡◌, ◌↔◌, ℕ, List, [], ◌∷◌, Option, Some, Result, Ok, Err, IsErr, MatchResult, MatchOption, IfSome, ⊤}
 use Rattle.service_model.specs.declared.plan.Plan.{Plan}
+use Rattle.service_model.specs.declared.breaks.Break.{Break}
+use Rattle.service_model.specs.Plans.{Feasible, Least, Empty}
+use Rattle.service_model.specs.Breaks.{first_break_of}
 use Rattle.gsm_outside.specs.Held.{Held}
+use Rattle.network_check.specs.declared.checked.Checked.{Checked}
 use Rattle.planner_top.specs.Asked.{Asked, asked_of}
 use Rattle.planner_top.specs.Contents.{too_long_of, contents_of}
-use Rattle.planner_top.specs.Checked.{files_in, checked_of}
-use Rattle.planner_top.specs.Texts.{plan_rows, infeasible_rows, stop_row}
-use Rattle.planner_top.specs.declared.checked.Checked.{Checked}
+use Rattle.planner_top.specs.Tasks.{IsTask}
+use Rattle.planner_top.specs.Texts.{plan_rows, infeasible_rows, audit_rows, broken_row, stop_row}
+use Rattle.planner_top.specs.declared.command.Command.{Command}
+use Rattle.planner_top.specs.declared.command.Command.TheVariants as command
 use Rattle.planner_top.specs.declared.word_fault.WordFault.{WordFault}
+use Rattle.planner_top.specs.declared.task.Task.{Task}
+use Rattle.planner_top.specs.declared.task.Task.TheVariants as task
 use Rattle.planner_top.specs.declared.stop.FileWord.{FileWord}
 use Rattle.planner_top.specs.declared.stop.Stop.{Stop}
 use Rattle.planner_top.specs.declared.stop.Stop.TheVariants as stop
 use Rattle.planner_top.specs.declared.answer.Ending.{Ending}
 use Rattle.planner_top.specs.declared.answer.Ending.TheVariants as ending
 
-abbrev pub unless_refused : Result Checked FileFault → Result Checked Stop
-unless_refused (Ok c) = Ok c
-unless_refused (Err fault) = Err (stop.Refused fault)
+-- what a request asks to be done, or why it is refused: by the length of a file, or by a rule on files
+abbrev pub IsAskedProblem : Asked → Held → Result Task Stop → Type 0
+IsAskedProblem q held problem =
+    MatchOption (too_long_of q held) (IsTask q.command q.horizon (contents_of q held) problem) (λ word. problem ≡ Err (stop.TooLong word))
 
-abbrev pub unless_too_long : Option FileWord → Result Checked Stop → Result Checked Stop
-unless_too_long None checked = checked
-unless_too_long (Some word) checked = Err (stop.TooLong word)
-
--- the network that a request asks to solve, or why it is refused: by the length of a file, or by a rule on files
-abbrev pub asked_problem : Asked → Held → Result Checked Stop
-asked_problem q held = unless_too_long (too_long_of q held) (unless_refused (checked_of q.horizon (files_in (contents_of q held))))
-
-abbrev pub unless_words : Result Asked WordFault → Held → Result Checked Stop
-unless_words (Ok q) held = asked_problem q held
-unless_words (Err fault) held = Err (stop.Words fault)
-
--- the network that the words ask to solve, or why they are refused
-abbrev pub problem_of : List (List ℕ) → Held → Result Checked Stop
-problem_of words held = unless_words (asked_of words) held
+-- what words ask to be done, or why they are refused
+abbrev pub IsProblem : List (List ℕ) → Held → Result Task Stop → Type 0
+IsProblem words held problem =
+    MatchResult (asked_of words) (λ q. IsAskedProblem q held problem) (λ fault. problem ≡ Err (stop.Words fault))
 
 abbrev pub ending_of : Stop → Ending
 ending_of (stop.Words fault) = ending.Words
@@ -49,14 +44,31 @@ IsRefusal e rows s = (e ≡ ending_of s) × (rows ≡ stop_row s ∷ [])
 abbrev pub IsSolution : Ending → List (List (List ℕ)) → Checked → Type 0
 IsSolution ending.Done rows c = (plan : Plan) × Least c.network plan × (rows ≡ plan_rows c plan)
 IsSolution ending.Infeasible rows c = Empty c.network × (rows ≡ infeasible_rows)
-IsSolution ending.Words rows c = ⊥
-IsSolution ending.Refused rows c = ⊥
-IsSolution ending.TooLong rows c = ⊥
+IsSolution _ rows c = ⊥
+
+-- the audit of a plan, with its lines: it is feasible, or the first rule that it breaks
+abbrev pub IsAudit : Ending → List (List (List ℕ)) → Checked → Plan → Type 0
+IsAudit ending.Done rows c plan = Feasible c.network plan × (rows ≡ audit_rows c plan)
+IsAudit ending.NotFeasible rows c plan =
+    (¬ Feasible c.network plan) × ((broken : Break) × (first_break_of c.network plan ≡ Some broken) × (rows ≡ broken_row c broken ∷ []))
+IsAudit _ rows c plan = ⊥
+
+-- a task that is done, with its lines
+abbrev pub IsDone : Ending → List (List (List ℕ)) → Task → Type 0
+IsDone e rows (task.Solve c) = IsSolution e rows c
+IsDone e rows (task.Audit c plan) = IsAudit e rows c plan
+
+-- a command may end so
+abbrev pub MayEnd : Command → Ending → Type 0
+MayEnd command.Solve ending.NotFeasible = ⊥
+MayEnd command.Audit ending.Infeasible = ⊥
+MayEnd _ _ = ⊤
 
 -- an ending with its rows is the answer to words and to what a shelf holds, where the shelf tells
 pub record IsAnswer (said : List (List ℕ)) (held : Option Held) (e : Ending) (rows : List (List (List ℕ))) : Type 0 where
   -- the words are refused exactly where a rule on them fails, and by the line of the first that does
   pub words : (e ≡ ending.Words) ↔ IsErr (asked_of said)
   pub rule : (fault : WordFault) → asked_of said ≡ Err fault → rows ≡ stop_row (stop.Words fault) ∷ []
-  -- the refusal that the words and files ask for, or else the solution of the network
-  pub told : IfSome held (λ m. MatchResult (problem_of said m) (IsSolution e rows) (IsRefusal e rows))
+  pub own : (q : Asked) → asked_of said ≡ Ok q → MayEnd q.command e
+  -- the refusal that the words and files ask for, or else what they ask to be done
+  pub told : IfSome held (λ m. (problem : Result Task Stop) × IsProblem said m problem × MatchResult problem (IsDone e rows) (IsRefusal e rows))

@@ -1,19 +1,24 @@
 -- What the words of a command line ask for.
-use Rattle.std.specs.Prelude.{ℕ, List, [], drop, Option, Some, None, Result, Ok, Err, unwrap_or, find}
+use Rattle.std.specs.Prelude.{ℕ, List, [], ◌∷◌, drop, Option, Some, None, Result, Ok, Err, unwrap_or, find}
 use Rattle.service_model.specs.declared.limits.TheConstants.{MAX_HORIZON}
 use Rattle.gsm_nums.specs.Whole.{whole_of, without_spaces}
 use Rattle.gsm_nums.specs.declared.whole.NumFault.{NumFault}
+use Rattle.planner_top.specs.declared.command.Command.{Command}
+use Rattle.planner_top.specs.declared.command.Command.TheVariants.{Solve}
 use Rattle.planner_top.specs.declared.command.Key.{Key}
 use Rattle.planner_top.specs.declared.command.Key.TheVariants.{Stages, Tables, Arcs, Horizon}
 use Rattle.planner_top.specs.declared.word_fault.WordFault.{WordFault}
-use Rattle.planner_top.specs.Commands.{key_text}
+use Rattle.planner_top.specs.declared.stop.FileWord.{FileWord}
+use Rattle.planner_top.specs.Commands.{key_text, command_named, file_key, further_file}
 use Rattle.planner_top.specs.Words.{value_in, is_keyed, word_fault}
 
--- three file names and a horizon
+-- a command, the names of the three files of a network and of the command's further file, if it has one, and a horizon
 pub record Asked : Type 0 where
+  pub command : Command
   pub stages : List ℕ
   pub tables : List ℕ
   pub arcs : List ℕ
+  pub further : List ℕ
   pub horizon : ℕ
 
 -- the value of the first word that has the key
@@ -28,12 +33,19 @@ or_zero (Err e) = 0
 unfoldable pub number_to : ℕ → List ℕ → ℕ
 number_to most value = or_zero (whole_of (without_spaces value) 0 most)
 
--- what the words behind the command ask for
-abbrev pub asked_by : List (List ℕ) → Asked
-asked_by later = record {
+-- the name of a command's further file, if it has one
+abbrev pub further_name : Option FileWord → List (List ℕ) → List ℕ
+further_name None later = []
+further_name (Some word) later = value_at (file_key word) later
+
+-- what a command and the words behind it ask for
+abbrev pub asked_by : Command → List (List ℕ) → Asked
+asked_by command later = record {
+  command = command;
   stages = value_at Stages later;
   tables = value_at Tables later;
   arcs = value_at Arcs later;
+  further = further_name (further_file command) later;
   horizon = number_to MAX_HORIZON (value_at Horizon later);
 }
 
@@ -41,6 +53,11 @@ abbrev pub unless_fault : Option WordFault → Asked → Result Asked WordFault
 unless_fault None asked = Ok asked
 unless_fault (Some fault) asked = Err fault
 
+-- the command that the first word names
+abbrev pub command_of : List (List ℕ) → Command
+command_of [] = Solve
+command_of (word ∷ later) = unwrap_or (command_named word) Solve
+
 -- what words ask for, or the first rule on words that fails
 unfoldable pub asked_of : List (List ℕ) → Result Asked WordFault
-asked_of words = unless_fault (word_fault words) (asked_by (drop 1 words))
+asked_of words = unless_fault (word_fault words) (asked_by (command_of words) (drop 1 words))

@@ -1,28 +1,33 @@
 -- The commands with their keys.
-use Rattle.std.specs.Prelude.{ℕ, ◌^◌, ◌≤◌, List, [], ◌∷◌, Option, codes, bytes_eq, find, ⊤}
+use Rattle.std.specs.Prelude.{ℕ, ◌^◌, ◌≤◌, List, [], ◌∷◌, Option, Some, None, codes, bytes_eq, find, ⊤}
 use Rattle.service_model.specs.declared.limits.TheConstants.{MAX_HORIZON}
 use Rattle.planner_top.specs.declared.command.Command.{Command}
-use Rattle.planner_top.specs.declared.command.Command.TheVariants.{Solve}
+use Rattle.planner_top.specs.declared.command.Command.TheVariants.{Solve, Audit}
 use Rattle.planner_top.specs.declared.command.Key.{Key}
-use Rattle.planner_top.specs.declared.command.Key.TheVariants.{Stages, Tables, Arcs, Horizon}
+use Rattle.planner_top.specs.declared.command.Key.TheVariants.{Stages, Tables, Arcs, Horizon, Plan}
 use Rattle.planner_top.specs.declared.command.ValueKind.{ValueKind}
 use Rattle.planner_top.specs.declared.command.ValueKind.TheVariants.{FileName, WholeNumber}
+use Rattle.planner_top.specs.declared.stop.FileWord.{FileWord}
+use Rattle.planner_top.specs.declared.stop.FileWord.TheVariants as file
 
 -- the commands
 abbrev pub commands : List Command
-commands = Solve ∷ []
+commands = Solve ∷ Audit ∷ []
 
 -- the word of a command
 abbrev pub command_text : Command → List ℕ
 command_text Solve = codes "solve"
+command_text Audit = codes "audit"
 
 -- the keys that a command requires, in their order
 abbrev pub required_keys : Command → List Key
 required_keys Solve = Stages ∷ Tables ∷ Arcs ∷ Horizon ∷ []
+required_keys Audit = Stages ∷ Tables ∷ Arcs ∷ Horizon ∷ Plan ∷ []
 
 -- the further keys that a command takes
 abbrev pub further_keys : Command → List Key
 further_keys Solve = []
+further_keys Audit = []
 
 -- the text of a key
 abbrev pub key_text : Key → List ℕ
@@ -30,6 +35,7 @@ key_text Stages = codes "stages"
 key_text Tables = codes "tables"
 key_text Arcs = codes "arcs"
 key_text Horizon = codes "horizon"
+key_text Plan = codes "plan"
 
 -- what a key's value may be
 abbrev pub value_kind : Key → ValueKind
@@ -37,6 +43,19 @@ value_kind Stages = FileName
 value_kind Tables = FileName
 value_kind Arcs = FileName
 value_kind Horizon = WholeNumber 0 MAX_HORIZON
+value_kind Plan = FileName
+
+-- the key of the word that names a file
+abbrev pub file_key : FileWord → Key
+file_key file.Stages = Stages
+file_key file.Tables = Tables
+file_key file.Arcs = Arcs
+file_key file.Plan = Plan
+
+-- the file that a command reads behind the three of its network, if there is one
+abbrev pub further_file : Command → Option FileWord
+further_file Solve = None
+further_file Audit = Some file.Plan
 
 -- the command that a word names, if it is one
 abbrev pub command_named : List ℕ → Option Command

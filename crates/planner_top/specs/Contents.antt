@@ -1,8 +1,9 @@
--- The bytes of the three files of a request.
+-- The bytes of the files of a request.
 use Rattle.std.specs.Prelude.{◌≡◌, ◌≤◌, ℕ, nat_lt, List, [], ◌∷◌, length, Option, Some, None, Result, Ok, Err, IfSome, if◌then◌else◌}
 use Rattle.service_model.specs.Search.{first_of}
 use Rattle.gsm_outside.specs.Held.{Held, file_bytes}
 use Rattle.gsm_outside.specs.Causes.{Rose}
+use Rattle.planner_top.specs.Commands.{further_file}
 use Rattle.planner_top.specs.Asked.{Asked}
 use Rattle.planner_top.specs.declared.files.TheConstants.{FILE_LIMIT}
 use Rattle.planner_top.specs.declared.contents.Contents.{Contents}
@@ -17,6 +18,10 @@ use Rattle.planner_top.specs.declared.stop.Unsolved.TheVariants as unsolved
 abbrev pub long_if : FileWord → List ℕ → Option FileWord
 long_if word bytes = if nat_lt FILE_LIMIT (length bytes) then Some word else None
 
+abbrev pub further_long : Option FileWord → List ℕ → Option FileWord
+further_long None bytes = None
+further_long (Some word) bytes = long_if word bytes
+
 -- the first file of a request that is longer than its limit
 abbrev pub too_long_of : Asked → Held → Option FileWord
 too_long_of q held =
@@ -24,8 +29,14 @@ too_long_of q held =
     long_if file.Stages (file_bytes held q.stages)
     ∷ long_if file.Tables (file_bytes held q.tables)
     ∷ long_if file.Arcs (file_bytes held q.arcs)
+    ∷ further_long (further_file q.command) (file_bytes held q.further)
     ∷ []
     )
+
+-- the bytes of a further file, none where there is none
+abbrev pub further_bytes : Option FileWord → List ℕ → List ℕ
+further_bytes None bytes = []
+further_bytes (Some word) bytes = bytes
 
 -- the bytes of the files of a request
 abbrev pub contents_of : Asked → Held → Contents
@@ -33,6 +44,7 @@ contents_of q held = record {
   stages = file_bytes held q.stages;
   tables = file_bytes held q.tables;
   arcs = file_bytes held q.arcs;
+  further = further_bytes (further_file q.command) (file_bytes held q.further);
 }
 
 -- no file is longer than its limit
@@ -40,12 +52,24 @@ pub record AreShort (c : Contents) : Type 0 where
   pub stages : length c.stages ≤ FILE_LIMIT
   pub tables : length c.tables ≤ FILE_LIMIT
   pub arcs : length c.arcs ≤ FILE_LIMIT
+  pub further : length c.further ≤ FILE_LIMIT
 
 -- why there is nothing to solve, where one file was not read
 abbrev pub unread_of : FileWord → ReadStop → Unsolved
 unread_of word read.Fault = unsolved.Fault word
 unread_of word read.TooLong = unsolved.Stop (stop.TooLong word)
 unread_of word read.NoMemory = unsolved.NoMemory
+
+-- what reading a further file gives, with the count of failed reads before and after it
+abbrev pub FurtherCase : Option FileWord → Option Held → List ℕ → ℕ → ℕ → Result (List ℕ) Unsolved → Type 0
+FurtherCase word held name before now (Ok bytes) =
+    (now ≡ before) × (length bytes ≤ FILE_LIMIT)
+    × IfSome held (λ m. (further_long word (file_bytes m name) ≡ None) × (bytes ≡ further_bytes word (file_bytes m name)))
+FurtherCase word held name before now (Err (unsolved.Stop (stop.TooLong long))) =
+    (now ≡ before) × IfSome held (λ m. further_long word (file_bytes m name) ≡ Some long)
+FurtherCase word held name before now (Err (unsolved.Stop _)) = ⊥
+FurtherCase word held name before now (Err (unsolved.Fault file)) = (before ≤ now) × Rose before now
+FurtherCase word held name before now (Err unsolved.NoMemory) = before ≤ now
 
 -- what reading the files of a request gives, with the count of failed reads before and after it
 abbrev pub FilesCase : Asked → Option Held → ℕ → ℕ → Result Contents Unsolved → Type 0

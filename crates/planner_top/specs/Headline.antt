@@ -1,13 +1,15 @@
 -- The promise of the top call.
-use Rattle.std.specs.Prelude.{◌≡◌, ◌≢◌, ◌≤◌, ◌↔◌, Some, Result, Ok, Err}
+use Rattle.std.specs.Prelude.{◌≡◌, ◌≢◌, ◌≤◌, ◌↔◌, ℕ, List, Some, Ok, Err}
 use Rattle.stage_file.specs.declared.fault.FileFault.{FileFault}
+use Rattle.network_check.specs.declared.checked.Checked.{Checked}
 use Rattle.gsm_outside.specs.Held.{Held}
 use Rattle.gsm_outside.specs.Causes.{Rose}
 use Rattle.service_model.specs.declared.plan.Plan.{Plan}
-use Rattle.service_model.specs.Plans.{Least, Empty}
-use Rattle.planner_top.specs.Answers.{problem_of}
+use Rattle.service_model.specs.Plans.{Feasible, Least, Empty}
+use Rattle.planner_top.specs.Answers.{IsProblem}
 use Rattle.planner_top.specs.Runs.{Run, Answered, FailedRead, PartPrinted, status_of}
-use Rattle.planner_top.specs.declared.checked.Checked.{Checked}
+use Rattle.planner_top.specs.declared.task.Task.{Task}
+use Rattle.planner_top.specs.declared.task.Task.TheVariants as task
 use Rattle.planner_top.specs.declared.word_fault.WordFault.{WordFault}
 use Rattle.planner_top.specs.declared.stop.FileWord.{FileWord}
 use Rattle.planner_top.specs.declared.stop.Stop.{Stop}
@@ -16,13 +18,19 @@ use Rattle.planner_top.specs.declared.answer.Ending.{Ending}
 use Rattle.planner_top.specs.declared.answer.Ending.TheVariants as ending
 use Rattle.planner_top.specs.declared.status.Status.TheVariants as status
 
--- which ending comes exactly where, for the network that words and files ask to solve, or their refusal
-pub record Exactly (problem : Result Checked Stop) (e : Ending) : Type 0 where
-  pub words : (e ≡ ending.Words) ↔ ((fault : WordFault) × (problem ≡ Err (stop.Words fault)))
-  pub too_long : (e ≡ ending.TooLong) ↔ ((word : FileWord) × (problem ≡ Err (stop.TooLong word)))
-  pub refused : (e ≡ ending.Refused) ↔ ((fault : FileFault) × (problem ≡ Err (stop.Refused fault)))
-  pub infeasible : (e ≡ ending.Infeasible) ↔ ((c : Checked) × (problem ≡ Ok c) × Empty c.network)
-  pub done : (e ≡ ending.Done) ↔ ((c : Checked) × (plan : Plan) × (problem ≡ Ok c) × Least c.network plan)
+-- a task that can be done: there is a least plan, or the plan is feasible
+abbrev pub CanBeDone : Task → Type 0
+CanBeDone (task.Solve c) = (plan : Plan) × Least c.network plan
+CanBeDone (task.Audit c plan) = Feasible c.network plan
+
+-- which ending comes exactly where, by what words and files ask to be done, or their refusal
+pub record Exactly (said : List (List ℕ)) (m : Held) (e : Ending) : Type 0 where
+  pub words : (e ≡ ending.Words) ↔ ((fault : WordFault) × IsProblem said m (Err (stop.Words fault)))
+  pub too_long : (e ≡ ending.TooLong) ↔ ((word : FileWord) × IsProblem said m (Err (stop.TooLong word)))
+  pub refused : (e ≡ ending.Refused) ↔ ((fault : FileFault) × IsProblem said m (Err (stop.Refused fault)))
+  pub infeasible : (e ≡ ending.Infeasible) ↔ ((c : Checked) × IsProblem said m (Ok (task.Solve c)) × Empty c.network)
+  pub not_feasible : (e ≡ ending.NotFeasible) ↔ ((c : Checked) × (plan : Plan) × IsProblem said m (Ok (task.Audit c plan)) × (¬ Feasible c.network plan))
+  pub done : (e ≡ ending.Done) ↔ ((t : Task) × IsProblem said m (Ok t) × CanBeDone t)
 
 -- no call on the outside failed, and memory sufficed
 pub record IsSure (r : Run) : Type 0 where
@@ -38,11 +46,11 @@ pub record Headline (r : Run) : Type 0 where
   -- where no call failed and memory sufficed there is an answer
   pub complete : IsSure r → (e : Ending) × (r.status ≡ status_of e)
   -- no other status comes, whatever failed
-  pub never : (r.status ≢ status.Spent) × (r.status ≢ status.NotAccepted) × (r.status ≢ status.NotFeasible)
+  pub never : (r.status ≢ status.Spent) × (r.status ≢ status.NotAccepted)
   -- an answer is true of the words and files where the shelf tells, its lines follow what was written, and no call failed
   pub answer : (e : Ending) → r.status ≡ status_of e → Answered r e
   -- and it comes exactly where its cause is, on a shelf that tells what it holds
-  pub exact : (e : Ending) (m : Held) → r.status ≡ status_of e → r.held ≡ Some m → Exactly (problem_of r.words m) e
+  pub exact : (e : Ending) (m : Held) → r.status ≡ status_of e → r.held ≡ Some m → Exactly r.words m e
   -- a read fault comes only where a read failed, a write fault only where a write failed; what each leaves
   pub read_fault : r.status ≡ status.ReadFault → FailedRead r
   pub write_fault : r.status ≡ status.WriteFault → Rose r.faults r.faults_after × PartPrinted r

@@ -5,7 +5,7 @@ pub mod Asked
 pub mod Requests
 pub mod Reading
 pub mod Contents
-pub mod Checked
+pub mod Tasks
 pub mod Choices
 pub mod Texts
 pub mod Reports

@@ -1,11 +1,14 @@
 -- What the calls give that a run is made of, with the count of failed reads before and after them.
-use Rattle.std.specs.Prelude.{◌≡◌, ◌≤◌, ℕ, List, Option, Result, Ok, Err, IsOk, IfSome}
+use Rattle.std.specs.Prelude.{◌≡◌, ◌≤◌, ℕ, List, Option, Result, Ok, Err, IsOk, IfSome, ⊤}
 use Rattle.gsm_outside.specs.Held.{Held}
 use Rattle.gsm_outside.specs.Causes.{Rose}
 use Rattle.planner_top.specs.Asked.{Asked, asked_of}
-use Rattle.planner_top.specs.Checked.{IsChecked}
-use Rattle.planner_top.specs.Answers.{asked_problem, problem_of, IsAnswer}
-use Rattle.planner_top.specs.declared.checked.Checked.{Checked}
+use Rattle.planner_top.specs.Tasks.{IsReady}
+use Rattle.planner_top.specs.Answers.{IsAskedProblem, IsProblem, MayEnd, IsAnswer}
+use Rattle.planner_top.specs.declared.command.Command.{Command}
+use Rattle.planner_top.specs.declared.command.Command.TheVariants as command
+use Rattle.planner_top.specs.declared.task.Task.{Task}
+use Rattle.planner_top.specs.declared.task.Task.TheVariants as task
 use Rattle.planner_top.specs.declared.stop.Stop.{Stop}
 use Rattle.planner_top.specs.declared.stop.Stop.TheVariants as stop
 use Rattle.planner_top.specs.declared.stop.Unsolved.{Unsolved}
@@ -20,22 +23,28 @@ TellsWords words (stop.Words fault) = asked_of words ≡ Err fault
 TellsWords words (stop.TooLong word) = IsOk (asked_of words)
 TellsWords words (stop.Refused fault) = IsOk (asked_of words)
 
--- the network that the words ask to solve, or why there is none
-abbrev pub ProblemCase : List (List ℕ) → Option Held → ℕ → ℕ → Result Checked Unsolved → Type 0
-ProblemCase words held before now (Ok c) =
-    (now ≡ before) × IsOk (asked_of words) × IsChecked c × IfSome held (λ m. problem_of words m ≡ Ok c)
-ProblemCase words held before now (Err (unsolved.Stop s)) =
-    (now ≡ before) × TellsWords words s × IfSome held (λ m. problem_of words m ≡ Err s)
-ProblemCase words held before now (Err (unsolved.Fault word)) = (before ≤ now) × Rose before now × IsOk (asked_of words)
-ProblemCase words held before now (Err unsolved.NoMemory) = before ≤ now
+-- a task is the one of a command
+abbrev pub IsTaskOf : Command → Task → Type 0
+IsTaskOf command.Solve (task.Solve c) = ⊤
+IsTaskOf command.Audit (task.Audit c plan) = ⊤
+IsTaskOf _ _ = ⊥
 
--- the network that a request asks to solve, or why there is none
-abbrev pub AskedCase : Asked → Option Held → ℕ → ℕ → Result Checked Unsolved → Type 0
-AskedCase q held before now (Ok c) = (now ≡ before) × IsChecked c × IfSome held (λ m. asked_problem q m ≡ Ok c)
+-- what a request asks to be done, or why there is nothing to do
+abbrev pub AskedCase : Asked → Option Held → ℕ → ℕ → Result Task Unsolved → Type 0
+AskedCase q held before now (Ok t) = (now ≡ before) × IsReady t × IsTaskOf q.command t × IfSome held (λ m. IsAskedProblem q m (Ok t))
 AskedCase q held before now (Err (unsolved.Stop (stop.Words fault))) = ⊥
-AskedCase q held before now (Err (unsolved.Stop s)) = (now ≡ before) × IfSome held (λ m. asked_problem q m ≡ Err s)
+AskedCase q held before now (Err (unsolved.Stop s)) = (now ≡ before) × IfSome held (λ m. IsAskedProblem q m (Err s))
 AskedCase q held before now (Err (unsolved.Fault word)) = (before ≤ now) × Rose before now
 AskedCase q held before now (Err unsolved.NoMemory) = before ≤ now
+
+-- what the words ask to be done, or why there is nothing to do
+abbrev pub ProblemCase : List (List ℕ) → Option Held → ℕ → ℕ → Result Task Unsolved → Type 0
+ProblemCase words held before now (Ok t) =
+    (now ≡ before) × IsReady t × ((q : Asked) × (asked_of words ≡ Ok q) × IsTaskOf q.command t) × IfSome held (λ m. IsProblem words m (Ok t))
+ProblemCase words held before now (Err (unsolved.Stop s)) =
+    (now ≡ before) × TellsWords words s × IfSome held (λ m. IsProblem words m (Err s))
+ProblemCase words held before now (Err (unsolved.Fault word)) = (before ≤ now) × Rose before now × IsOk (asked_of words)
+ProblemCase words held before now (Err unsolved.NoMemory) = before ≤ now
 
 -- the answer to the words, or why there is none
 abbrev pub AnswerCase : List (List ℕ) → Option Held → ℕ → ℕ → Result Answer Unanswered → Type 0

@@ -2,9 +2,9 @@
 use Rattle.std.specs.Prelude.{ℕ, ◌*◌, List, [], ◌∷◌, decimal}
 use Rattle.service_model.specs.declared.plan.Plan.{Plan}
 use Rattle.service_model.specs.Plans.{inbound_at, outbound_at}
-use Rattle.planner_top.specs.declared.checked.Checked.{Checked}
+use Rattle.network_check.specs.declared.checked.Checked.{Checked}
+use Rattle.network_check.specs.Checked.{unit_at}
 use Rattle.planner_top.specs.declared.report.StockLine.{StockLine}
-use Rattle.planner_top.specs.Checked.{unit_at}
 use Rattle.planner_top.specs.Texts.{net_time, stock_at}
 
 -- a stage's times, its stock and what that costs

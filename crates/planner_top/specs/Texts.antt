@@ -3,19 +3,22 @@ use Rattle.std.specs.Prelude.{ℕ, ◌+◌, ◌-◌, ◌*◌, ◌==◌, List, []
 use Rattle.std.specs.List.{range_with_len}
 use Rattle.csv.specs.Writing.{row_text, default_writer}
 use Rattle.service_model.specs.declared.plan.Plan.{Plan}
-use Rattle.service_model.specs.Net.{Net, stage_at}
+use Rattle.service_model.specs.declared.breaks.Break.{Break}
+use Rattle.service_model.specs.declared.breaks.TheConstants.{NOT_WAITED}
+use Rattle.service_model.specs.Net.{Net, stage_at, arc_in}
 use Rattle.service_model.specs.Plans.{inbound_at, outbound_at, cost_of}
 use Rattle.stage_file.specs.declared.fault.FileFault.{FileFault}
 use Rattle.stage_file.specs.declared.fault.FileKind.{FileKind}
 use Rattle.stage_file.specs.declared.fault.FileKind.TheVariants as kind
-use Rattle.planner_top.specs.declared.not_yet.TheConstants.{BOUND_NOT_YET, ARCS_NOT_YET}
+use Rattle.network_check.specs.declared.not_yet.TheConstants.{BOUND_NOT_YET}
+use Rattle.network_check.specs.declared.checked.Checked.{Checked}
+use Rattle.network_check.specs.Checked.{name_at, unit_at, excess_at}
+use Rattle.planner_top.specs.declared.not_yet.TheConstants.{ARCS_NOT_YET}
 use Rattle.planner_top.specs.declared.word_fault.WordFault.{WordFault}
-use Rattle.planner_top.specs.declared.checked.Checked.{Checked}
 use Rattle.planner_top.specs.declared.stop.FileWord.{FileWord}
 use Rattle.planner_top.specs.declared.stop.FileWord.TheVariants as file
 use Rattle.planner_top.specs.declared.stop.Stop.{Stop}
 use Rattle.planner_top.specs.declared.stop.Stop.TheVariants as stop
-use Rattle.planner_top.specs.Checked.{name_at, unit_at, excess_at}
 
 -- rows as csv writes them, one line each
 unfoldable pub lines_of : List (List (List ℕ)) → List ℕ
@@ -58,10 +61,26 @@ plan_rows c p = (codes "optimal" ∷ decimal (cost_of c.network p) ∷ []) ∷ r
 abbrev pub infeasible_rows : List (List (List ℕ))
 infeasible_rows = (codes "infeasible" ∷ []) ∷ ranges_row ∷ []
 
+-- what is printed for a feasible plan
+abbrev pub audit_rows : Checked → Plan → List (List (List ℕ))
+audit_rows c p = (codes "feasible" ∷ decimal (cost_of c.network p) ∷ []) ∷ report_header ∷ report_rows c p
+
+-- where a rule is broken: on an arc by the names of its supplier and its customer, else by that of the stage
+abbrev pub broken_names : Checked → Break → List (List ℕ)
+broken_names c broken =
+    if broken.rule == NOT_WAITED
+    then name_at c (arc_in c.network.arcs broken.place).supplier ∷ name_at c (arc_in c.network.arcs broken.place).customer ∷ []
+    else name_at c broken.place ∷ []
+
+-- the rule that a plan breaks, and where
+abbrev pub broken_row : Checked → Break → List (List ℕ)
+broken_row c broken = codes "broken" ∷ (codes "B" ++ decimal broken.rule) ∷ broken_names c broken
+
 abbrev pub file_text : FileWord → List ℕ
 file_text file.Stages = codes "stages"
 file_text file.Tables = codes "tables"
 file_text file.Arcs = codes "arcs"
+file_text file.Plan = codes "plan"
 
 abbrev pub kind_text : FileKind → List ℕ
 kind_text kind.Stages = codes "stages"

@@ -14,6 +14,8 @@ pub enum Ending {
     Words,
     Refused,
     TooLong,
+    /// The plan that was audited breaks a rule.
+    NotFeasible,
 }
 
 /// An ending, with the rows that are printed.

@@ -1,13 +1,17 @@
 // The commands with their keys: what may stand on a command line.
 ghost use Rattle.std.specs.Prelude.{◌≡◌};
-ghost use Rattle.planner_top.specs.Commands.{command_named, required_keys, further_keys, key_text, value_kind, IsReadable};
+ghost use Rattle.planner_top.specs.Commands.{command_named, required_keys, further_keys, key_text, value_kind, file_key, further_file, IsReadable};
 
+use crate::stop::FileWord;
 use service_model::MAX_HORIZON;
 
 /// What the first word asks for.
 #[derive(Clone, Copy, Debug, PartialEq, Eq)]
 pub enum Command {
+    /// The least plan of a network.
     Solve,
+    /// What a plan costs, or which rule it breaks.
+    Audit,
 }
 
 /// A key of a command. Two keys of different commands may have one text.
@@ -17,6 +21,7 @@ pub enum Key {
     Tables,
     Arcs,
     Horizon,
+    Plan,
 }
 
 /// What the value behind a key may be.
@@ -34,6 +39,8 @@ pub fn command_named(word: &str) -> Option<Command>
 {
     if word.as_bytes() == b"solve".as_slice() {
         Some(Command::Solve)
+    } else if word.as_bytes() == b"audit".as_slice() {
+        Some(Command::Audit)
     } else {
         None
     }
@@ -45,6 +52,13 @@ pub fn required_keys(command: Command) -> &'static [Key]
 {
     match command {
         Command::Solve => &[Key::Stages, Key::Tables, Key::Arcs, Key::Horizon],
+        Command::Audit => &[
+            Key::Stages,
+            Key::Tables,
+            Key::Arcs,
+            Key::Horizon,
+            Key::Plan,
+        ],
     }
 }
 
@@ -53,7 +67,7 @@ pub fn further_keys(command: Command) -> &'static [Key]
     ensures { result.now ≡ further_keys command }
 {
     match command {
-        Command::Solve => &[],
+        Command::Solve | Command::Audit => &[],
     }
 }
 
@@ -66,6 +80,7 @@ pub fn key_text(key: Key) -> &'static str
         Key::Tables => "tables",
         Key::Arcs => "arcs",
         Key::Horizon => "horizon",
+        Key::Plan => "plan",
     }
 }
 
@@ -75,7 +90,29 @@ pub fn value_kind(key: Key) -> ValueKind
     ensures within { IsReadable result }
 {
     match key {
-        Key::Stages | Key::Tables | Key::Arcs => ValueKind::FileName,
+        Key::Stages | Key::Tables | Key::Arcs | Key::Plan => ValueKind::FileName,
         Key::Horizon => ValueKind::WholeNumber(0, MAX_HORIZON as u64),
+    }
+}
+
+/// The key of the word that names a file.
+pub fn file_key(file: FileWord) -> Key
+    ensures { result ≡ file_key file }
+{
+    match file {
+        FileWord::Stages => Key::Stages,
+        FileWord::Tables => Key::Tables,
+        FileWord::Arcs => Key::Arcs,
+        FileWord::Plan => Key::Plan,
+    }
+}
+
+/// The file that a command reads behind the three of its network.
+pub fn further_file(command: Command) -> Option<FileWord>
+    ensures { result ≡ further_file command }
+{
+    match command {
+        Command::Solve => None,
+        Command::Audit => Some(FileWord::Plan),
     }
 }

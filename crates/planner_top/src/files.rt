@@ -1,19 +1,23 @@
-// Reading the three files of a request.
+// Reading the files of a request.
 ghost use Rattle.std.specs.Prelude.{◌≡◌};
+ghost use Rattle.planner_top.specs.Commands.{further_file};
 ghost use Rattle.planner_top.specs.Requests.{request_as};
-ghost use Rattle.planner_top.specs.Contents.{FilesCase, unread_of};
+ghost use Rattle.planner_top.specs.Contents.{FilesCase, FurtherCase, unread_of};
 
 use crate::asked::Request;
+use crate::command::further_file;
 use crate::contents::Contents;
 use crate::fetch::read_file;
 use crate::stop::{FileWord, ReadStop, Stop, Unsolved};
 use gsm_outside::Shelf;
+use service_model::List;
+use stage_file::Text;
 use std::alloc::Global;
 
-/// The most bytes of a stage, table or arc file.
-const FILE_LIMIT: u64 = 16_777_216;
+/// The most bytes of a stage, table, arc or plan file.
+pub const FILE_LIMIT: u64 = 16_777_216;
 
-/// Reads the three files in turn.
+/// Reads the files in turn.
 pub fn read_files<S: Shelf>(
     alloc: Global,
     shelf: &mut S,
@@ -35,11 +39,35 @@ pub fn read_files<S: Shelf>(
         Ok(bytes) => bytes,
         Err(stop) => return Err(unread(FileWord::Arcs, stop)),
     };
-    Ok(Contents {
-        stages,
-        tables,
-        arcs,
-    })
+    match read_further(alloc, shelf, further_file(request.command), request.further) {
+        Ok(further) => Ok(Contents {
+            stages,
+            tables,
+            arcs,
+            further,
+        }),
+        Err(unsolved) => Err(unsolved),
+    }
+}
+
+// Reads the command's further file, if it has one.
+fn read_further<S: Shelf>(
+    alloc: Global,
+    shelf: &mut S,
+    file: Option<FileWord>,
+    name: &str,
+) -> Result<Text, Unsolved>
+    ensures case { FurtherCase file (S.held shelf.old) name.now (S.read_faults shelf.old) (S.read_faults shelf.new) result }
+    ensures held { S.held shelf.new ≡ S.held shelf.old }
+    ensures writes { S.write_faults shelf.new ≡ S.write_faults shelf.old }
+{
+    let Some(file) = file else {
+        return Ok(List::new(alloc));
+    };
+    match read_file(alloc, shelf, name, FILE_LIMIT) {
+        Ok(bytes) => Ok(bytes),
+        Err(stop) => Err(unread(file, stop)),
+    }
 }
 
 fn unread(file: FileWord, stop: ReadStop) -> Unsolved

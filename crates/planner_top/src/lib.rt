@@ -2,8 +2,9 @@
 #![tactic(auto)]
 
 mod answer;
+mod answering;
 mod asked;
-mod checked;
+mod audit;
 mod choice;
 mod command;
 mod contents;
@@ -11,14 +12,13 @@ mod fetch;
 mod files;
 mod least;
 mod not_yet;
-mod plain;
-mod plain_rules;
 mod refusal;
 mod report;
 mod request;
 mod solve;
 mod status;
 mod stop;
+mod task;
 #[cfg(test)]
 mod tests;
 #[cfg(test)]

@@ -5,10 +5,11 @@ ghost use Rattle.planner_top.specs.Texts.{stop_row, word_row, refused_row, rule_
 ghost use Rattle.planner_top.specs.Answers.{IsRefusal, ending_of};
 
 use crate::answer::{Answer, Ending};
-use crate::not_yet::{ARCS_NOT_YET, BOUND_NOT_YET};
+use crate::not_yet::ARCS_NOT_YET;
 use crate::stop::{FileWord, Stop};
 use crate::text::{number, numbered, row_of};
 use crate::word_fault::WordFault;
+use network_check::BOUND_NOT_YET;
 use service_model::{List, NoMemory};
 use stage_file::{FileFault, FileKind, Row, Text};
 use std::alloc::Global;
@@ -99,5 +100,6 @@ pub fn file_text(file: FileWord) -> &'static str
         FileWord::Stages => "stages",
         FileWord::Tables => "tables",
         FileWord::Arcs => "arcs",
+        FileWord::Plan => "plan",
     }
 }

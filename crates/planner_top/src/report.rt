@@ -2,12 +2,12 @@
 ghost use Rattle.std.specs.Prelude.{◌≡◌, ◌<◌, ◌++◌, length, map, IfOk, OnOk};
 ghost use Rattle.std.specs.List.{range_with_len};
 ghost use Rattle.service_model.specs.Plans.{Feasible};
-ghost use Rattle.planner_top.specs.Checked.{IsChecked};
+ghost use Rattle.network_check.specs.Checked.{IsChecked};
 ghost use Rattle.planner_top.specs.Reports.{stock_line, line_row};
-ghost use Rattle.planner_top.specs.Texts.{report_row, report_rows};
+ghost use Rattle.planner_top.specs.Texts.{report_header, report_row, report_rows};
 
-use crate::checked::Checked;
-use crate::text::number;
+use crate::text::{number, row_of};
+use network_check::Checked;
 use service_model::{List, NoMemory, Plan};
 use stage_file::{Row, Rows};
 use std::alloc::Global;
@@ -20,6 +20,16 @@ pub struct StockLine {
     pub time: u32,
     pub stock: u64,
     pub cost: u64,
+}
+
+/// The header of the report.
+pub fn report_header(alloc: Global) -> Result<Row, NoMemory>
+    ensures { IfOk result (λ row. row ≡ report_header) }
+{
+    row_of(
+        alloc,
+        &["stage", "inbound", "outbound", "time", "stock", "cost"],
+    )
 }
 
 /// Puts the reports on all stages behind rows, in the order of the stages.

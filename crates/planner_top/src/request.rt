@@ -1,11 +1,14 @@
 // What the words ask for.
-ghost use Rattle.std.specs.Prelude.{◌≡◌, ◌≤◌, drop, find, option_map, string_bytes};
+ghost use Rattle.std.specs.Prelude.{◌≡◌, ◌≤◌, drop, find, option_map, unwrap_or, string_bytes};
+ghost use Rattle.service_model.specs.declared.limits.TheConstants.{MAX_HORIZON};
 ghost use Rattle.planner_top.specs.Words.{texts, is_keyed};
-ghost use Rattle.planner_top.specs.Asked.{value_at, number_to, asked_by, asked_of};
+ghost use Rattle.planner_top.specs.Asked.{value_at, number_to, further_name, asked_by, command_of, asked_of};
+ghost use Rattle.planner_top.specs.Commands.{command_named};
 ghost use Rattle.planner_top.specs.Requests.{request_as, RequestCase};
 
 use crate::asked::Request;
-use crate::command::{Key, key_text};
+use crate::command::{Command, Key, command_named, file_key, further_file, key_text};
+use crate::stop::FileWord;
 use crate::word_fault::{WordFault, word_fault};
 use crate::word_tests::{is_keyed, value_in};
 use crate::words::Words;
@@ -25,24 +28,43 @@ pub fn request_of(words: &Words) -> Result<Request<'_>, WordFault>
 }
 
 fn request_in(words: &[String]) -> Request<'_>
-    ensures value { request_as result ≡ asked_by (drop 1 (texts words.now)) }
-    ensures horizon { result.horizon ≤ 400 }
+    ensures value { request_as result ≡ asked_by (command_of (texts words.now)) (drop 1 (texts words.now)) }
+    ensures horizon { result.horizon ≤ MAX_HORIZON }
 {
     match words {
-        [_, later @ ..] => request_by(later),
-        [] => request_by(words),
+        [first, later @ ..] => request_by(command_or_solve(first.as_str()), later),
+        [] => request_by(Command::Solve, words),
     }
 }
 
-fn request_by(later: &[String]) -> Request<'_>
-    ensures value { request_as result ≡ asked_by (texts later.now) }
-    ensures horizon { result.horizon ≤ 400 }
+// The command that a word names; `solve` where it names none, which no rule on words lets through.
+fn command_or_solve(word: &str) -> Command
+    ensures { result ≡ unwrap_or (command_named word.now) Command.Solve }
+{
+    command_named(word).unwrap_or(Command::Solve)
+}
+
+fn request_by(command: Command, later: &[String]) -> Request<'_>
+    ensures value { request_as result ≡ asked_by command (texts later.now) }
+    ensures horizon { result.horizon ≤ MAX_HORIZON }
 {
     Request {
+        command,
         stages: value_at(Key::Stages, later),
         tables: value_at(Key::Tables, later),
         arcs: value_at(Key::Arcs, later),
+        further: further_name(further_file(command), later),
         horizon: number_to(MAX_HORIZON, value_at(Key::Horizon, later)),
+    }
+}
+
+// The name of a command's further file.
+fn further_name(file: Option<FileWord>, later: &[String]) -> &str
+    ensures { result.now ≡ further_name file (texts later.now) }
+{
+    match file {
+        Some(file) => value_at(file_key(file), later),
+        None => "",
     }
 }
 

@@ -1,10 +1,11 @@
-// Why a run ends before there is a network to solve.
+// Why a run ends before there is something to do.
 ghost use Rattle.std.specs.Prelude.{◌≡◌};
 ghost use Rattle.planner_top.specs.declared.stop.Unsolved.TheVariants as unsolved;
+ghost use Rattle.planner_top.specs.Tasks.{unsolved_by};
 
 use crate::word_fault::WordFault;
 use service_model::NoMemory;
-use stage_file::FileFault;
+use stage_file::{FileFault, ReadFault};
 
 /// A file that a run reads.
 #[derive(Clone, Copy, Debug, PartialEq, Eq)]
@@ -12,6 +13,7 @@ pub enum FileWord {
     Stages,
     Tables,
     Arcs,
+    Plan,
 }
 
 /// Why one file was not read.
@@ -32,7 +34,7 @@ pub enum Stop {
     Refused(FileFault),
 }
 
-/// Why a run has no network to solve.
+/// Why a run has nothing to do.
 #[derive(Clone, Copy, Debug, PartialEq, Eq)]
 pub enum Unsolved {
     Stop(Stop),
@@ -46,5 +48,15 @@ impl From<NoMemory> for Unsolved {
 
     fn from(_: NoMemory) -> Self {
         Unsolved::NoMemory
+    }
+}
+
+/// Why there is nothing to do, where the rows of files were not read.
+pub fn unsolved_by(fault: ReadFault) -> Unsolved
+    ensures { result ≡ unsolved_by fault }
+{
+    match fault {
+        ReadFault::Fault(fault) => Unsolved::Stop(Stop::Refused(fault)),
+        ReadFault::NoMemory => Unsolved::NoMemory,
     }
 }

@@ -6,8 +6,8 @@ ghost use Rattle.planner_top.specs.Runs.{run_of, Follows, PartFollows, StatusCas
 ghost use Rattle.planner_top.specs.Headline.{Headline};
 
 use crate::answer::{Ending, Unanswered};
+use crate::answering::answer_of;
 use crate::refusal::file_text;
-use crate::solve::answer_of;
 use crate::status::Status;
 use crate::stop::FileWord;
 use crate::text::{row_of, text_of};
@@ -50,6 +50,7 @@ fn status_of(ending: Ending) -> Status
         Ending::Words => Status::Words,
         Ending::Refused => Status::Refused,
         Ending::TooLong => Status::TooLong,
+        Ending::NotFeasible => Status::NotFeasible,
     }
 }
 

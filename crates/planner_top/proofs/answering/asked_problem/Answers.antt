@@ -1,8 +1,8 @@
 use Rattle.planner_top.specs.Requests.{request_as}
 use Rattle.planner_top.proofs.ProblemFacts.{asked_case}
-use Rattle.planner_top.proofs.solve.asked_problem.Goals as goal
+use Rattle.planner_top.proofs.answering.asked_problem.Goals as goal
 
 pub returns-in-Ok-clause-case : goal.returns-in-Ok-clause-case
 returns-in-Ok-clause-case g c =
     let read = c.in-Ok.ensures.case in
-    asked_case (request_as c.args.request.now) _ _ _ c.in-Ok.contents _ read.0 read.2 c.checked_of.ensures
+    asked_case (request_as c.args.request.now) _ _ _ c.in-Ok.contents _ read.0 read.2 c.task_of.ensures

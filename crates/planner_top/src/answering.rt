@@ -1,0 +1,79 @@
+// From the words to the answer.
+ghost use Rattle.std.specs.Prelude.{◌≡◌, ◌≤◌, IfOk};
+ghost use Rattle.service_model.specs.declared.limits.TheConstants.{MAX_HORIZON};
+ghost use Rattle.planner_top.specs.Requests.{request_as};
+ghost use Rattle.planner_top.specs.Tasks.{IsReady};
+ghost use Rattle.planner_top.specs.Answers.{IsDone};
+ghost use Rattle.planner_top.specs.Problems.{ProblemCase, AskedCase, AnswerCase};
+
+use crate::answer::{Answer, Unanswered};
+use crate::asked::Request;
+use crate::audit::audit_of;
+use crate::files::read_files;
+use crate::refusal::refusal_of;
+use crate::request::request_of;
+use crate::solve::solution_of;
+use crate::stop::{Stop, Unsolved};
+use crate::task::{Task, task_of};
+use crate::words::Words;
+use gsm_outside::Shelf;
+use service_model::NoMemory;
+use std::alloc::Global;
+
+/// The answer to the words, with the rows that are printed.
+pub fn answer_of<S: Shelf>(
+    alloc: Global,
+    words: &Words,
+    shelf: &mut S,
+) -> Result<Answer, Unanswered>
+    ensures case { AnswerCase words.now (S.held shelf.old) (S.read_faults shelf.old) (S.read_faults shelf.new) result }
+    ensures held { S.held shelf.new ≡ S.held shelf.old }
+    ensures writes { S.write_faults shelf.new ≡ S.write_faults shelf.old }
+{
+    match problem_of(alloc, words, shelf) {
+        Ok(task) => Ok(done_of(alloc, &task)?),
+        Err(Unsolved::Stop(stop)) => Ok(refusal_of(alloc, stop)?),
+        Err(Unsolved::Fault(file)) => Err(Unanswered::Fault(file)),
+        Err(Unsolved::NoMemory) => Err(Unanswered::NoMemory),
+    }
+}
+
+// What the words ask to be done.
+fn problem_of<S: Shelf>(alloc: Global, words: &Words, shelf: &mut S) -> Result<Task, Unsolved>
+    ensures case { ProblemCase words.now (S.held shelf.old) (S.read_faults shelf.old) (S.read_faults shelf.new) result }
+    ensures held { S.held shelf.new ≡ S.held shelf.old }
+    ensures writes { S.write_faults shelf.new ≡ S.write_faults shelf.old }
+{
+    match request_of(words) {
+        Ok(request) => asked_problem(alloc, &request, shelf),
+        Err(fault) => Err(Unsolved::Stop(Stop::Words(fault))),
+    }
+}
+
+// What a request asks to be done.
+fn asked_problem<S: Shelf>(
+    alloc: Global,
+    request: &Request<'_>,
+    shelf: &mut S,
+) -> Result<Task, Unsolved>
+    requires { request.now.horizon ≤ MAX_HORIZON }
+    ensures case { AskedCase (request_as request.now) (S.held shelf.old) (S.read_faults shelf.old) (S.read_faults shelf.new) result }
+    ensures held { S.held shelf.new ≡ S.held shelf.old }
+    ensures writes { S.write_faults shelf.new ≡ S.write_faults shelf.old }
+{
+    match read_files(alloc, shelf, request) {
+        Ok(contents) => task_of(alloc, request.command, request.horizon, &contents),
+        Err(unsolved) => Err(unsolved),
+    }
+}
+
+// The task done.
+fn done_of(alloc: Global, task: &Task) -> Result<Answer, NoMemory>
+    requires { IsReady task.now }
+    ensures { IfOk result (λ a. IsDone a.ending a.rows task.now) }
+{
+    match task {
+        Task::Solve(checked) => solution_of(alloc, checked),
+        Task::Audit(checked, plan) => audit_of(alloc, checked, plan),
+    }
+}

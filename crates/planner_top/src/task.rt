@@ -1,0 +1,141 @@
+// From the bytes of files to what is to be done with their network.
+ghost use Rattle.std.specs.Prelude.{◌≡◌, ◌≤◌, IfOk, length};
+ghost use Rattle.service_model.specs.declared.limits.TheConstants.{MAX_HORIZON};
+ghost use Rattle.stage_file.specs.Raw.{AreFiles, IsRawNet};
+ghost use Rattle.stage_file.specs.Rows.{rows_of_bytes};
+ghost use Rattle.stage_file.specs.Records.{AreCountable};
+ghost use Rattle.stage_file.specs.Arcs.{names_of};
+ghost use Rattle.stage_file.specs.PlanRecords.{plan_file_fault, plan_of};
+ghost use Rattle.stage_file.specs.Faults.{Reads};
+ghost use Rattle.network_check.specs.Checked.{checked_from, IsChecked};
+ghost use Rattle.planner_top.specs.Contents.{AreShort};
+ghost use Rattle.planner_top.specs.Tasks.{files_in, arcs_fault, TaskCase, TogetherCase, LastCase};
+
+use crate::command::Command;
+use crate::contents::Contents;
+use crate::files::FILE_LIMIT;
+use crate::not_yet::ARCS_NOT_YET;
+use crate::stop::{Stop, Unsolved, unsolved_by};
+use network_check::{Checked, check_records};
+use service_model::{NoMemory, Plan};
+use stage_file::{
+    ArcRow, FileFault, FileKind, Files, RawNet, ReadFault, Rows, raw_net, read_plan, rows_of,
+};
+use std::alloc::Global;
+
+/// What is to be done.
+#[derive(Drop)]
+pub enum Task {
+    /// The least plan of the network is to be found.
+    Solve(Checked),
+    /// The plan is to be tested against the rules.
+    Audit(Checked, Plan),
+}
+
+/// What the command does with the network of files under a horizon, or the first rule on files that fails.
+pub fn task_of(
+    alloc: Global,
+    command: Command,
+    horizon: u16,
+    contents: &Contents,
+) -> Result<Task, Unsolved>
+    requires horizon { horizon ≤ MAX_HORIZON }
+    requires short { AreShort contents.now }
+    ensures { TaskCase command horizon contents.now result }
+{
+    let files = files_of(alloc, contents)?;
+    match raw_net(alloc, &files, horizon) {
+        Ok(raw) => task_in(alloc, command, &raw, contents.further.as_slice()),
+        Err(fault) => Err(unsolved_by(fault)),
+    }
+}
+
+// The rows of the three files of a network.
+fn files_of(alloc: Global, contents: &Contents) -> Result<Files, NoMemory>
+    requires { AreShort contents.now }
+    ensures value { IfOk result (λ files. files ≡ files_in contents.now) }
+    ensures countable { IfOk result AreFiles }
+{
+    Ok(Files {
+        stages: rows_in(alloc, contents.stages.as_slice())?,
+        tables: rows_in(alloc, contents.tables.as_slice())?,
+        arcs: rows_in(alloc, contents.arcs.as_slice())?,
+    })
+}
+
+// The rows of a file that is not too long: few enough to be numbered.
+fn rows_in(alloc: Global, bytes: &[u8]) -> Result<Rows, NoMemory>
+    requires { length bytes.now ≤ FILE_LIMIT }
+    ensures value { IfOk result (λ rows. rows ≡ rows_of_bytes bytes.now) }
+    ensures countable { IfOk result AreCountable }
+{
+    let rows = rows_of(alloc, bytes)?;
+    Ok(rows)
+}
+
+// What the command does with the network of records, or the first rule on them together or behind that fails.
+fn task_in(
+    alloc: Global,
+    command: Command,
+    raw: &RawNet,
+    further: &[u8],
+) -> Result<Task, Unsolved>
+    requires horizon { raw.now.horizon ≤ MAX_HORIZON }
+    requires read { IsRawNet raw.now }
+    requires short { length further.now ≤ FILE_LIMIT }
+    ensures { TogetherCase command raw.now further.now result }
+{
+    match check_records(alloc, raw) {
+        Ok(checked) => last_of(alloc, command, raw, checked, further),
+        Err(fault) => Err(unsolved_by(fault)),
+    }
+}
+
+// The task, or the first rule that fails behind those on the network.
+fn last_of(
+    alloc: Global,
+    command: Command,
+    raw: &RawNet,
+    checked: Checked,
+    further: &[u8],
+) -> Result<Task, Unsolved>
+    requires read { IsRawNet raw.now }
+    requires made { checked ≡ checked_from raw.now }
+    requires checked { IsChecked checked }
+    requires short { length further.now ≤ FILE_LIMIT }
+    ensures { LastCase command raw.now further.now result }
+{
+    match command {
+        Command::Solve => match arcs_fault(raw.arcs.as_slice()) {
+            Some(fault) => Err(Unsolved::Stop(Stop::Refused(fault))),
+            None => Ok(Task::Solve(checked)),
+        },
+        Command::Audit => match plan_in(alloc, raw, further) {
+            Ok(plan) => Ok(Task::Audit(checked, plan)),
+            Err(fault) => Err(unsolved_by(fault)),
+        },
+    }
+}
+
+// The plan of a plan file.
+fn plan_in(alloc: Global, raw: &RawNet, further: &[u8]) -> Result<Plan, ReadFault>
+    requires read { IsRawNet raw.now }
+    requires short { length further.now ≤ FILE_LIMIT }
+    ensures { Reads (plan_file_fault (names_of raw.now.stages) (rows_of_bytes further.now)) (plan_of (names_of raw.now.stages) (rows_of_bytes further.now)) result }
+{
+    let rows = rows_in(alloc, further)?;
+    read_plan(alloc, &rows, &raw.stages)
+}
+
+// No arc is solved yet.
+fn arcs_fault(arcs: &[ArcRow]) -> Option<FileFault>
+    ensures { result ≡ arcs_fault arcs.now }
+{
+    let first = arcs.first()?;
+    Some(FileFault {
+        file: FileKind::Arcs,
+        row: first.row,
+        rule: ARCS_NOT_YET,
+        column: 0,
+    })
+}
