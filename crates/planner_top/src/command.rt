@@ -52,13 +52,7 @@ pub fn required_keys(command: Command) -> &'static [Key]
 {
     match command {
         Command::Solve => &[Key::Stages, Key::Tables, Key::Arcs, Key::Horizon],
-        Command::Audit => &[
-            Key::Stages,
-            Key::Tables,
-            Key::Arcs,
-            Key::Horizon,
-            Key::Plan,
-        ],
+        Command::Audit => &[Key::Stages, Key::Tables, Key::Arcs, Key::Horizon, Key::Plan],
     }
 }
 

@@ -74,12 +74,7 @@ fn rows_in(alloc: Global, bytes: &[u8]) -> Result<Rows, NoMemory>
 }
 
 // What the command does with the network of records, or the first rule on them together or behind that fails.
-fn task_in(
-    alloc: Global,
-    command: Command,
-    raw: &RawNet,
-    further: &[u8],
-) -> Result<Task, Unsolved>
+fn task_in(alloc: Global, command: Command, raw: &RawNet, further: &[u8]) -> Result<Task, Unsolved>
     requires horizon { raw.now.horizon ≤ MAX_HORIZON }
     requires read { IsRawNet raw.now }
     requires short { length further.now ≤ FILE_LIMIT }

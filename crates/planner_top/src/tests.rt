@@ -22,7 +22,7 @@ struct Case<'a> {
     text: &'a str,
 }
 
-const CASES: [Case<'static>; 7] = [
+const CASES: [Case<'static>; 8] = [
     Case {
         name: "plain",
         horizon: "horizon=10",
@@ -66,7 +66,7 @@ const CASES: [Case<'static>; 7] = [
         tables: "table,x\nt,0,1,2,3\n",
         arcs: "supplier,customer,quantity\nA,B,1\nB,C,1\nC,A,1\nC,D,1\n",
         status: Status::Refused,
-        text: "refused,ArcsNotYet,arcs,2,0\n",
+        text: "refused,F20,stages,3,1\n",
     },
     Case {
         name: "the usual producer",
@@ -76,6 +76,15 @@ const CASES: [Case<'static>; 7] = [
         arcs: "",
         status: Status::Done,
         text: "optimal,6\nstage,inbound,outbound,time,stock,cost\n\"Hub, north\",0,6,1,3,6\nranges,1\n",
+    },
+    Case {
+        name: "two stages",
+        horizon: "horizon=5",
+        stages: "stage,lead,supply,least,most,bound,unit\nA,3,,,,a,1\nB,2,,,0,b,1\n",
+        tables: "table,x\na,0,2,3,4\nb,0,5,7,9,10,12\n",
+        arcs: "supplier,customer,quantity\nA,B,1\n",
+        status: Status::Refused,
+        text: "refused,ArcsNotYet,arcs,2,0\n",
     },
     Case {
         name: "a bound by demand",
@@ -184,7 +193,7 @@ fn each_rule_on_files_is_printed_with_its_place(rt: HostRuntime) -> Result<(), F
 #[test]
 fn each_rule_on_words_is_printed_with_its_place(rt: HostRuntime) -> Result<(), Fail> {
     let alloc = rt.alloc();
-    let cases: [(&[&str], &str); 12] = [
+    let cases: [(&[&str], &str); 14] = [
         (&[], "words,W1,0\n"),
         (&["--help"], "words,W2,1\n"),
         (&["solve", "stages=s"], "words,W6,2\n"),
@@ -197,6 +206,11 @@ fn each_rule_on_words_is_printed_with_its_place(rt: HostRuntime) -> Result<(), F
         (
             &["solve", "stages=s", "tables=t", "arcs=a", "horizon=auto"],
             "words,W7,5\n",
+        ),
+        (&["solve", "plan=p"], "words,W4,2\n"),
+        (
+            &["audit", "stages=s", "tables=t", "arcs=a", "horizon=2"],
+            "words,W6,5\n",
         ),
         (&["solve", "horizon=401"], "words,W7,2\n"),
         (&["solve", "horizon=5.0"], "words,W7,2\n"),
