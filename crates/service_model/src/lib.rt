@@ -12,9 +12,11 @@ mod marks;
 mod network;
 mod order;
 mod plan;
+mod range;
 mod ready;
 mod stage;
 mod stage_rules;
+mod table;
 #[cfg(test)]
 mod tests;
 #[cfg(test)]
@@ -28,4 +30,6 @@ pub use list::{List, NoMemory};
 pub use network::Network;
 pub use order::topological_order;
 pub use plan::Plan;
+pub use range::Range;
 pub use stage::{Stage, SupplyArc};
+pub use table::{Kind, Table};
