@@ -24,6 +24,7 @@ mod tests_orders;
 mod waits;
 
 pub use breaks::Break;
+pub use cycle::first_on_cycle;
 pub use faults::{NetworkFault, NewFault};
 pub use limits::{INF, MAX_ARCS, MAX_HORIZON, MAX_PLAN_COST, MAX_STAGES, MAX_TIME};
 pub use list::{List, NoMemory};
