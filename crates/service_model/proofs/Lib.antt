@@ -2,6 +2,7 @@ mod CustomerFacts
 mod CycleFacts
 mod EndFacts
 mod EntryFacts
+mod FloorFacts
 mod FrontFacts
 mod MarkFacts
 mod SearchedFacts
@@ -12,6 +13,7 @@ pub mod FaultFacts
 pub mod NetworkFacts
 pub mod OrderLaws
 pub mod PlanFacts
+pub mod RangeFacts
 pub mod SearchFacts
 pub mod TopFacts
 pub mod ValidFacts

@@ -1,19 +1,18 @@
 -- On a network that keeps all limits no rule fails but the one on cycles.
-use Rattle.std.proofs.Common.{◌≡◌, ◌≢◌, ℕ, zero, suc, ◌+◌, ◌<◌, ◌≤◌, ◌||◌, ◌&&◌, ◌==◌, Bool, true, false, eqb, ltb, leb, cond, nat_lt, nat_le, Option, Some, None, List, [], ◌∷◌, length, get_or, take, refl, sym, ◌∙◌, arith}
-use Rattle.std.specs.List.{All, position, position_or_len, list_any}
-use Rattle.std.specs.Option.{MatchOption}
+use Rattle.std.proofs.Common.{◌≡◌, ℕ, suc, ◌<◌, ◌≤◌, ◌||◌, ◌&&◌, ◌==◌, Bool, false, eqb, ltb, nat_lt, Option, Some, None, List, [], ◌∷◌, length, get_or, take, refl, sym, ◌∙◌, arith}
+use Rattle.std.specs.List.{position_or_len, list_any}
 use Rattle.std.specs.Prelude.{option_map}
 use Rattle.std.proofs.lemmas.List.Folds.{list_any_none}
 use Rattle.std.proofs.lemmas.List.{get_or-take, get_or_default, length-take}
 use Rattle.std.proofs.lemmas.Bool.Decides.{nat_tests}
-use Rattle.service_model.specs.declared.limits.TheConstants.{INF, MAX_HORIZON, MAX_STAGES, MAX_ARCS, MAX_TIME, MAX_BEYOND, MAX_PLAN_COST}
+use Rattle.service_model.specs.declared.limits.TheConstants.{INF, MAX_HORIZON, MAX_STAGES, MAX_ARCS, MAX_TIME, MAX_PLAN_COST}
 use Rattle.service_model.specs.declared.faults.TheConstants.{LONG_HORIZON, STAGE_COUNT, STAGE_TIMES, COST_LENGTH, COST_ENTRY, ARC_COUNT, ARC_ENDS, ARC_TWICE, ON_CYCLE, LONG_TRANSIT}
 use Rattle.service_model.specs.declared.faults.NetworkFault.{NetworkFault}
 use Rattle.service_model.specs.declared.stage.Stage.{Stage}
 use Rattle.service_model.specs.declared.stage.SupplyArc.{SupplyArc}
 use Rattle.service_model.specs.Net.{Net, stage_at, arc_in, no_stage, no_arc}
 use Rattle.service_model.specs.Walks.{NoCycle, IsFirstOnCycle}
-use Rattle.service_model.specs.Search.{first_of, first_below}
+use Rattle.service_model.specs.Search.{first_of}
 use Rattle.service_model.specs.Faults.{fault_at, fails_if, fails_at, fails_below, has_bad_times, has_bad_length, has_bad_entry, has_bad_ends, same_ends, IsSameEnds, stands_twice, has_long_transit, tops_below, top_of, rules_before_cycle, rules_from_cycle, FirstFromCycle, IsFirstFault, StageWithin, ArcWithin, IsNetwork, KeepsLimits}
 use Rattle.service_model.proofs.SearchFacts.{AllNone, below_none, sum_below_grows}
 

@@ -3,8 +3,10 @@
 
 mod arc_rules;
 mod breaks;
+mod capped;
 mod cycle;
 mod faults;
+mod floors;
 mod limits;
 mod links;
 mod list;
@@ -21,9 +23,12 @@ mod table;
 mod tests;
 #[cfg(test)]
 mod tests_orders;
+#[cfg(test)]
+mod tests_ranges;
 mod waits;
 
 pub use breaks::Break;
+pub use capped::capped_add;
 pub use cycle::first_on_cycle;
 pub use faults::{NetworkFault, NewFault};
 pub use limits::{INF, MAX_ARCS, MAX_HORIZON, MAX_PLAN_COST, MAX_STAGES, MAX_TIME};
