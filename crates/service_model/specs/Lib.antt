@@ -11,3 +11,4 @@ pub mod Waits
 pub mod Marks
 pub mod Ranges
 pub mod Tables
+pub mod Nodes
