@@ -1,0 +1,4 @@
+pub mod ElementFacts
+pub mod SumFacts
+pub mod BelowFacts
+pub mod TracedFacts
