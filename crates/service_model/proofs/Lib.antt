@@ -8,6 +8,7 @@ mod MarkFacts
 mod SearchedFacts
 mod TakenFacts
 mod WaitFacts
+pub mod ArcFacts
 pub mod CostFacts
 pub mod FaultFacts
 pub mod NetworkFacts

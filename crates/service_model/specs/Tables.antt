@@ -15,7 +15,7 @@ no_table = record { stage = 0; kind = Root; least = 0; most = 0; floor = 0; chil
 abbrev pub table_at : List Table → ℕ → Table
 table_at tables i = slice_index_or tables i no_table
 
--- an arc leads from stage i to stage j
+-- an arc leads from stage i to stage j, told as `any` over the arcs finds it
 abbrev pub Supplies : List SupplyArc → ℕ → ℕ → Type 0
 Supplies arcs i j = Any (λ a. (a.supplier ≡ i) × (a.customer ≡ j)) arcs
 

@@ -70,7 +70,8 @@ fn raise_floor(floors: &mut List<u16>, arc: &SupplyArc, starts: &List<u16>, hori
     requires supplier { arc.now.supplier < length starts.now }
     requires customer { arc.now.customer < length floors.old }
     requires horizon { horizon ≤ MAX_HORIZON }
-    ensures { floors.new ≡ slice_set floors.old arc.now.customer (max (slice_index floors.old arc.now.customer) (min (horizon + 1) (slice_index starts.now arc.now.supplier + arc.now.transit))) }
+    ensures { let latest = min (horizon + 1) (slice_index starts.now arc.now.supplier + arc.now.transit) in
+        floors.new ≡ slice_set floors.old arc.now.customer (max (slice_index floors.old arc.now.customer) latest) }
 {
     let start = *starts.get(arc.supplier as usize) as u32 + arc.transit as u32;
     let latest = start.min(horizon as u32 + 1) as u16;
