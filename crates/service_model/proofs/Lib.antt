@@ -2,16 +2,19 @@ mod CustomerFacts
 mod CycleFacts
 mod EndFacts
 mod EntryFacts
+mod FloorFacts
 mod FrontFacts
 mod MarkFacts
 mod SearchedFacts
 mod TakenFacts
 mod WaitFacts
+pub mod ArcFacts
 pub mod CostFacts
 pub mod FaultFacts
 pub mod NetworkFacts
 pub mod OrderLaws
 pub mod PlanFacts
+pub mod RangeFacts
 pub mod SearchFacts
 pub mod TopFacts
 pub mod ValidFacts

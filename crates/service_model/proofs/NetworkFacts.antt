@@ -2,7 +2,7 @@
 use Rattle.std.proofs.Common.{◌≡◌, ◌≢◌, ℕ, suc, ◌+◌, ◌-◌, ◌<◌, ◌≤◌, ◌||◌, Bool, true, false, eqb, ltb, Option, Some, None, List, length, get_or, take, refl, sym, subst, arith}
 use Rattle.std.specs.Prelude.{All, Result, Ok, Err, IfOk, IsErrAnd}
 use Rattle.std.specs.List.{list_any}
-use Rattle.std.proofs.lemmas.List.{get_or-take, length-take}
+use Rattle.std.proofs.lemmas.List.{get_or-take, get_or_default, length-take}
 use Rattle.std.proofs.lemmas.List.Folds.{list_any_at}
 use Rattle.std.proofs.lemmas.Bool.{ltb-false}
 use Rattle.std.proofs.lemmas.Bool.Decides.{nat_tests}
@@ -17,6 +17,7 @@ use Rattle.service_model.specs.declared.stage.SupplyArc.{SupplyArc}
 use Rattle.service_model.specs.Net.{Net, net_of, stage_at, no_stage, arc_in, no_arc}
 use Rattle.service_model.specs.Search.{first_of}
 use Rattle.service_model.specs.Walks.{NoCycle}
+use Rattle.service_model.specs.Customers.{HasEnds}
 use Rattle.service_model.specs.Faults.{fails_at, has_bad_times, has_bad_length, has_bad_entry, has_bad_ends, has_long_transit, same_ends, IsSameEnds, stands_twice, tops_below, rules_before_cycle, rules_from_cycle, FirstFromCycle, IsFirstFault, StageWithin, ArcWithin, IsNetwork, MakesNetwork}
 use Rattle.service_model.proofs.SearchFacts.{first_of_none}
 use Rattle.service_model.proofs.FaultFacts.{no_fault, none_fails_at, none_fails_below}
@@ -148,3 +149,9 @@ first_fault_of_same horizon given stages read arcs found fault same_stages same_
 pub no_memory_makes_none : (n : Net) (r : Result Net NewFault) → IsErrAnd r (λ e. e ≡ no_memory) → MakesNetwork n r
 no_memory_makes_none n (Ok made) e = absurd e
 no_memory_makes_none n (Err e) same = rw same tt
+
+-- each arc of a network joins stages
+pub IsNetwork-HasEnds : (n : Net) → IsNetwork n → HasEnds (length n.stages) n.arcs
+IsNetwork-HasEnds n valid a d within =
+    let arc = valid.arcs a within in
+    rw (get_or_default n.arcs a d no_arc within) (arc.supplier, arc.customer)

@@ -9,3 +9,6 @@ pub mod Customers
 pub mod Orders
 pub mod Waits
 pub mod Marks
+pub mod Ranges
+pub mod Tables
+pub mod Nodes

@@ -8,7 +8,7 @@ use std::alloc::{AllocError, Global};
 use std::test::Fail;
 
 // Lead, supply, least and most of a stage, and its cost list.
-type Row<'a> = ([u16; 4], &'a [u64]);
+pub(crate) type Row<'a> = ([u16; 4], &'a [u64]);
 
 const FREE: Row<'static> = ([0, 0, 0, 0], &[0]);
 
@@ -18,7 +18,7 @@ const DEAR: u64 = 4_000_000_000_000_000_000;
 type Refusal<'a> = (u8, u32, &'a [Row<'a>], &'a [SupplyArc]);
 
 // From a supplier to a customer, so many periods on the way.
-fn arc(supplier: u32, customer: u32, transit: u16) -> SupplyArc {
+pub(crate) fn arc(supplier: u32, customer: u32, transit: u16) -> SupplyArc {
     SupplyArc {
         supplier,
         customer,
@@ -37,7 +37,7 @@ fn stage(alloc: Global, row: Row) -> Result<Stage, NoMemory> {
     })
 }
 
-fn network(
+pub(crate) fn network(
     alloc: Global,
     horizon: u16,
     rows: &[Row],
@@ -184,7 +184,7 @@ fn judged(network: &Network, plan: &Plan) -> Option<Result<u64, (u8, u32)>> {
     })
 }
 
-fn plan(alloc: Global, inbound: &[u16], outbound: &[u16]) -> Result<Plan, NoMemory>
+pub(crate) fn plan(alloc: Global, inbound: &[u16], outbound: &[u16]) -> Result<Plan, NoMemory>
     ensures { IfOk result (λ p. (p.inbound ≡ inbound.now) × (p.outbound ≡ outbound.now)) }
 {
     Ok(Plan {
