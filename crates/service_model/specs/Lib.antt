@@ -9,3 +9,4 @@ pub mod Customers
 pub mod Orders
 pub mod Waits
 pub mod Marks
+pub mod Forests

@@ -1,0 +1,4 @@
+mod PickFacts
+mod LinkFacts
+mod SeenFacts
+mod StepFacts
