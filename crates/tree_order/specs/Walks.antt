@@ -37,8 +37,8 @@ pub record Grows (old new : List ℕ) : Type 0 where
   pub front : take (length old) new ≡ old
 
 -- the walk has seen all stages
-pub record IsWholeWalk (l : Links) (w : Walk) : Type 0 where
-  pub next : ComesNextSeen l.stages l.arcs.now w.seen
-  pub each : (j : ℕ) → j < l.stages → Contains w.seen j
-  pub long : length w.parent ≡ l.stages
-  pub parents : HasParents l.arcs.now w.seen w.parent
+pub record IsWholeWalk (stages : ℕ) (arcs : List SupplyArc) (w : Walk) : Type 0 where
+  pub next : ComesNextSeen stages arcs w.seen
+  pub each : (j : ℕ) → j < stages → Contains w.seen j
+  pub long : length w.parent ≡ stages
+  pub parents : HasParents arcs w.seen w.parent

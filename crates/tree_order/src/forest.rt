@@ -20,11 +20,18 @@ pub struct Forest {
     pub dropped: List<u32>,
 }
 
-ghost use Rattle.tree_order.specs.Forest.{IsForest};
+ghost use Rattle.std.specs.Prelude.{◌≡◌, [], All};
+ghost use Rattle.service_model.specs.Forests.{IsKept};
+ghost use Rattle.tree_order.specs.Forest.{IsForest, ChildrenFirst, HasOneSide};
 
 /// The forest of the walk over the stages of a network.
 pub fn forest_of(alloc: Global, network: &Network) -> Result<Forest, NoMemory>
     ensures forest { IfOk result (IsForest (length network.now.stages) network.now.arcs) }
+
+    // What follows: children before parents, how they are joined, and when no arc is left out.
+    ensures children_first { IfOk result ChildrenFirst }
+    ensures one_side { IfOk result (HasOneSide network.now.arcs) }
+    ensures all_kept { IfOk result (λ forest. forest.dropped ≡ [] → All (IsKept forest.parent) network.now.arcs) }
 {
     let arcs = network.arcs().as_slice();
     let links = Links::new(alloc, network.stages().len(), arcs)?;

@@ -31,7 +31,7 @@ impl Walk {
     /// Walks over all stages: the neighbours of what was seen first, and where none is new the lowest stage.
     pub fn over(alloc: Global, links: &Links) -> Result<Walk, NoMemory>
         requires { AreLinks links.now }
-        ensures { IfOk result (IsWholeWalk links.now) }
+        ensures { IfOk result (IsWholeWalk links.now.stages links.now.arcs.now) }
     {
         let mut walk = Walk::new(alloc, links.stages)?;
         'roots: for root in 0..links.stages {
