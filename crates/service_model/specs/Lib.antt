@@ -12,3 +12,4 @@ pub mod Marks
 pub mod Ranges
 pub mod Tables
 pub mod Nodes
+pub mod Forests
