@@ -34,7 +34,7 @@ pub use faults::{NetworkFault, NewFault};
 pub use limits::{INF, MAX_ARCS, MAX_HORIZON, MAX_PLAN_COST, MAX_STAGES, MAX_TIME};
 pub use list::{List, NoMemory};
 pub use network::Network;
-pub use order::topological_order;
+pub use order::{lowest_first, topological_order};
 pub use plan::Plan;
 pub use range::Range;
 pub use stage::{Stage, SupplyArc};

@@ -1,10 +1,11 @@
 // The order in which suppliers come first.
-ghost use Rattle.std.specs.Prelude.{IfOk, length};
+ghost use Rattle.std.specs.Prelude.{◌<◌, ◌^◌, IfOk, length};
+ghost use Rattle.service_model.specs.Customers.{HasEnds};
 ghost use Rattle.service_model.specs.Orders.{IsFront, IsTopological};
 
 use crate::links::Links;
 use crate::waits::{first_ready, release, waits_of};
-use crate::{List, Network, NoMemory};
+use crate::{List, Network, NoMemory, SupplyArc};
 use std::alloc::Global;
 
 /// Takes again and again the lowest stage whose suppliers were all taken, until there is none.
@@ -18,6 +19,21 @@ pub fn front(alloc: Global, links: &Links) -> Result<List<u32>, NoMemory>
         order.push(stage)?;
         release(links.customers_of(stage), &mut waits, &mut ready)?;
     }
+    Ok(order)
+}
+
+/// The same of arcs between so many stages. All stages are taken where there is no cycle.
+pub fn lowest_first(
+    alloc: Global,
+    stages: usize,
+    arcs: &[SupplyArc],
+) -> Result<List<u32>, NoMemory>
+    requires few { stages < 2 ^ 32 }
+    requires ends { HasEnds stages arcs.now }
+    ensures { IfOk result (IsFront stages arcs.now) }
+{
+    let links = Links::new(alloc, stages, arcs)?;
+    let order = front(alloc, &links)?;
     Ok(order)
 }
 

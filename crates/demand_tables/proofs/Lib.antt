@@ -1,0 +1,13 @@
+mod ArcFacts
+mod AskedFacts
+mod BoundedFacts
+mod CaseFacts
+mod Downstream
+pub mod ExcessLaws
+mod MadeFacts
+mod OrderFacts
+mod RuleFacts
+mod ShortestFacts
+mod SolvedFacts
+mod TableNames
+mod WithinFacts
