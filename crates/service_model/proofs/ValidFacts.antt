@@ -1,19 +1,20 @@
--- On a network that keeps all limits no rule fails.
+-- On a network that keeps all limits no rule fails but the one on cycles.
 use Rattle.std.proofs.Common.{◌≡◌, ◌≢◌, ℕ, zero, suc, ◌+◌, ◌<◌, ◌≤◌, ◌||◌, ◌&&◌, ◌==◌, Bool, true, false, eqb, ltb, leb, cond, nat_lt, nat_le, Option, Some, None, List, [], ◌∷◌, length, get_or, take, refl, sym, ◌∙◌, arith}
 use Rattle.std.specs.List.{All, position, position_or_len, list_any}
 use Rattle.std.specs.Option.{MatchOption}
+use Rattle.std.specs.Prelude.{option_map}
 use Rattle.std.proofs.lemmas.List.Folds.{list_any_none}
 use Rattle.std.proofs.lemmas.List.{get_or-take, get_or_default, length-take}
 use Rattle.std.proofs.lemmas.Bool.Decides.{nat_tests}
 use Rattle.service_model.specs.declared.limits.TheConstants.{INF, MAX_HORIZON, MAX_STAGES, MAX_ARCS, MAX_TIME, MAX_BEYOND, MAX_PLAN_COST}
-use Rattle.service_model.specs.declared.faults.TheConstants.{LONG_HORIZON, STAGE_COUNT, STAGE_TIMES, COST_LENGTH, COST_ENTRY, ARC_COUNT, ARC_ENDS, ARC_TWICE, LONG_TRANSIT}
+use Rattle.service_model.specs.declared.faults.TheConstants.{LONG_HORIZON, STAGE_COUNT, STAGE_TIMES, COST_LENGTH, COST_ENTRY, ARC_COUNT, ARC_ENDS, ARC_TWICE, ON_CYCLE, LONG_TRANSIT}
 use Rattle.service_model.specs.declared.faults.NetworkFault.{NetworkFault}
 use Rattle.service_model.specs.declared.stage.Stage.{Stage}
 use Rattle.service_model.specs.declared.stage.SupplyArc.{SupplyArc}
 use Rattle.service_model.specs.Net.{Net, stage_at, arc_in, no_stage, no_arc}
-use Rattle.service_model.specs.Walks.{NoCycle, IsFirstOnCycle, IsLowestOnCycle}
+use Rattle.service_model.specs.Walks.{NoCycle, IsFirstOnCycle}
 use Rattle.service_model.specs.Search.{first_of, first_below}
-use Rattle.service_model.specs.Faults.{fails_if, fails_at, fails_below, has_bad_times, has_bad_length, has_bad_entry, has_bad_ends, same_ends, IsSameEnds, stands_twice, has_long_transit, tops_below, top_of, rules_before_cycle, rules_from_cycle, FirstFromCycle, IsFirstFault, StageWithin, ArcWithin, IsNetwork}
+use Rattle.service_model.specs.Faults.{fault_at, fails_if, fails_at, fails_below, has_bad_times, has_bad_length, has_bad_entry, has_bad_ends, same_ends, IsSameEnds, stands_twice, has_long_transit, tops_below, top_of, rules_before_cycle, rules_from_cycle, FirstFromCycle, IsFirstFault, StageWithin, ArcWithin, IsNetwork, KeepsLimits}
 use Rattle.service_model.proofs.SearchFacts.{AllNone, below_none, sum_below_grows}
 
 first_of_all_none : {A : Type 0} (xs : List (Option A)) → AllNone xs → first_of xs ≡ None
@@ -54,7 +55,7 @@ good_length h s w = let a = w.some_cost in let b = w.cost_length in grind (arith
 small : (a b : ℕ) → b ≤ a → ltb a b ≡ false
 small a b le = grind (arith, nat_tests)
 
-good_entry : (n : Net) (j : ℕ) → IsNetwork n → j < length n.stages → has_bad_entry n j ≡ false
+good_entry : (n : Net) (j : ℕ) → KeepsLimits n → j < length n.stages → has_bad_entry n j ≡ false
 unfolding has_bad_entry
 good_entry n j valid within =
     let entries = (valid.stages j within).entries in
@@ -76,7 +77,7 @@ apart p q r s differ = grind (arith, nat_tests, differ)
 not_same : (a b : SupplyArc) → (IsSameEnds b a → ⊥) → same_ends a b ≡ false
 not_same a b differ = apart a.supplier a.customer b.supplier b.customer (λ same. differ (sym same.0, sym same.1))
 
-good_once : (n : Net) (a : ℕ) → IsNetwork n → a < length n.arcs → stands_twice n.arcs a ≡ false
+good_once : (n : Net) (a : ℕ) → KeepsLimits n → a < length n.arcs → stands_twice n.arcs a ≡ false
 unfolding stands_twice
 good_once n a valid within =
     list_any_none (same_ends (arc_in n.arcs a)) (take a n.arcs) (λ k d l.
@@ -90,7 +91,7 @@ at_stage n k d within = get_or_default n.stages k d no_stage within
 at_arc : (n : Net) (k : ℕ) (d : SupplyArc) → k < length n.arcs → get_or n.arcs k d ≡ arc_in n.arcs k
 at_arc n k d within = get_or_default n.arcs k d no_arc within
 
-none_before_cycle : (n : Net) → IsNetwork n → AllNone (rules_before_cycle n)
+none_before_cycle : (n : Net) → KeepsLimits n → AllNone (rules_before_cycle n)
 none_before_cycle n valid =
     let horizon : fails_if LONG_HORIZON (nat_lt MAX_HORIZON n.horizon) 0 ≡ None = holds LONG_HORIZON _ 0 (small MAX_HORIZON n.horizon valid.horizon) in
     let counted : ((length n.stages == 0) || nat_lt MAX_STAGES (length n.stages)) ≡ false = (let some = valid.some_stage in let few = valid.few_stages in grind (arith, nat_tests)) in
@@ -103,17 +104,40 @@ none_before_cycle n valid =
     let twice = holds_below ARC_TWICE (stands_twice n.arcs) (length n.arcs) (λ k l. good_once n k valid l) in
     (horizon, (count, (times, (lengths, (entries, (arcs, (ends, (twice, tt))))))))
 
-none_from_cycle : (n : Net) (first : Option ℕ) → IsNetwork n → IsFirstOnCycle (length n.stages) n.arcs first → first_of (rules_from_cycle n first) ≡ None
-none_from_cycle n None valid is =
-    let last : fails_at LONG_TRANSIT has_long_transit n.arcs ≡ None = holds_at LONG_TRANSIT has_long_transit n.arcs (λ k d l. rw (at_arc n k d l) (good_transit (length n.stages) (arc_in n.arcs k) (valid.arcs k l))) in
+-- the rule on cycles decides
+from_cycle : (n : Net) (first : Option ℕ) → KeepsLimits n → first_of (rules_from_cycle n first) ≡ option_map (fault_at ON_CYCLE) first
+from_cycle n None keeps =
+    let last : fails_at LONG_TRANSIT has_long_transit n.arcs ≡ None = holds_at LONG_TRANSIT has_long_transit n.arcs (λ k d l. rw (at_arc n k d l) (good_transit (length n.stages) (arc_in n.arcs k) (keeps.arcs k l))) in
     rw last refl
-none_from_cycle n (Some j) valid is = absurd (valid.acyclic j is.stage is.reaches)
+from_cycle n (Some j) keeps = refl
+
+-- the first rule that fails is the one on cycles, at the first stage that reaches itself, or none
+pub limits_leave_cycle : (n : Net) (fault : Option NetworkFault) → KeepsLimits n → IsFirstFault n fault
+    → (first : Option ℕ) × IsFirstOnCycle (length n.stages) n.arcs first × (fault ≡ option_map (fault_at ON_CYCLE) first)
+limits_leave_cycle n fault keeps is =
+    let before = first_of_all_none (rules_before_cycle n) (none_before_cycle n keeps) in
+    let after : FirstFromCycle n fault = rw before at is in
+    (after.0, after.1, after.2 ∙ from_cycle n after.0 keeps)
+
+-- a network keeps the limits
+pub KeepsLimits_from_network : (n : Net) → IsNetwork n → KeepsLimits n
+KeepsLimits_from_network n valid = record {
+  horizon = valid.horizon;
+  some_stage = valid.some_stage;
+  few_stages = valid.few_stages;
+  stages = valid.stages;
+  payable = valid.payable;
+  few_arcs = valid.few_arcs;
+  arcs = valid.arcs;
+  once = valid.once;
+}
+
+no_lowest : (n : Net) (f : NetworkFault) (first : Option ℕ) → NoCycle (length n.stages) n.arcs → IsFirstOnCycle (length n.stages) n.arcs first → Some f ≡ option_map (fault_at ON_CYCLE) first → ⊥
+no_lowest n f None none is same = cc
+no_lowest n f (Some j) none is same = none j is.stage is.reaches
 
 -- the first rule that fails is none
 pub valid_has_no_fault : (n : Net) (f : NetworkFault) → IsNetwork n → IsFirstFault n (Some f) → ⊥
 valid_has_no_fault n f valid is =
-    let before = first_of_all_none (rules_before_cycle n) (none_before_cycle n valid) in
-    let after : FirstFromCycle n (Some f) = rw before at is in
-    let none = none_from_cycle n after.0 valid after.1 in
-    let some = after.2 in
-    cc
+    let cycle = limits_leave_cycle n (Some f) (KeepsLimits_from_network n valid) is in
+    no_lowest n f cycle.0 valid.acyclic cycle.1 cycle.2

@@ -128,3 +128,14 @@ pub record IsNetwork (n : Net) : Type 0 where
   pub arcs : (a : ℕ) → a < length n.arcs → ArcWithin (length n.stages) (arc_in n.arcs a)
   pub once : (a b : ℕ) → a < b → b < length n.arcs → IsSameEnds (arc_in n.arcs a) (arc_in n.arcs b) → ⊥
   pub acyclic : NoCycle (length n.stages) n.arcs
+
+-- all rules hold, but perhaps the one on cycles
+pub record KeepsLimits (n : Net) : Type 0 where
+  pub horizon : n.horizon ≤ MAX_HORIZON
+  pub some_stage : 0 < length n.stages
+  pub few_stages : length n.stages ≤ MAX_STAGES
+  pub stages : (j : ℕ) → j < length n.stages → StageWithin n.horizon (stage_at n j)
+  pub payable : tops_below n (length n.stages) ≤ MAX_PLAN_COST
+  pub few_arcs : length n.arcs ≤ MAX_ARCS
+  pub arcs : (a : ℕ) → a < length n.arcs → ArcWithin (length n.stages) (arc_in n.arcs a)
+  pub once : (a b : ℕ) → a < b → b < length n.arcs → IsSameEnds (arc_in n.arcs a) (arc_in n.arcs b) → ⊥

@@ -9,3 +9,5 @@ pub mod Customers
 pub mod Orders
 pub mod Waits
 pub mod Marks
+pub mod Ranges
+pub mod Tables

@@ -36,7 +36,8 @@ fn lowest_on_cycle(alloc: Global, links: &Links) -> Result<Option<u32>, NoMemory
     Ok(None)
 }
 
-/// The lowest stage that reaches itself along arcs. The searches run only where there is a cycle.
+/// The lowest stage that reaches itself along arcs, none where no stage does. Both ends of each arc are among so many
+/// stages. Without a cycle one pass over the arcs tells so; else a search from each stage looks for the lowest.
 pub fn first_on_cycle(
     alloc: Global,
     stages: usize,
