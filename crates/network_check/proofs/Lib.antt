@@ -1,9 +1,1 @@
-pub mod BoundFacts
-pub mod CheckedFacts
-pub mod ExcessFacts
-pub mod LimitFacts
-pub mod NetworkFacts
 pub mod RefusalLaws
-pub mod StageFacts
-pub mod TableNames
-pub mod TogetherFacts
