@@ -1,8 +1,9 @@
 -- A task that is done, or a refusal, is the answer.
-use Rattle.std.proofs.Common.{◌≡◌, ℕ, List, [], ◌∷◌, Option, Some, None, Result, Ok, Err, refl, sym, subst, ap, ◌∙◌}
+use Rattle.std.proofs.Common.{◌≡◌, ◌≤◌, ℕ, List, [], ◌∷◌, Option, Some, None, Result, Ok, Err, refl, sym, subst, ap, ◌∙◌, arith}
 use Rattle.std.specs.Option.{IfSome}
 use Rattle.std.specs.Result.{MatchResult, IsOk, IsErr}
 use Rattle.gsm_outside.specs.Held.{Held}
+use Rattle.planner_top.specs.declared.filled.TheConstants.{MOST_FILLED}
 use Rattle.planner_top.specs.declared.command.Command.{Command}
 use Rattle.planner_top.specs.declared.command.Command.TheVariants as command
 use Rattle.planner_top.specs.declared.word_fault.WordFault.{WordFault}
@@ -17,25 +18,25 @@ use Rattle.planner_top.specs.Texts.{stop_row}
 use Rattle.planner_top.specs.Problems.{IsTaskOf, TellsWords}
 use Rattle.planner_top.specs.Answers.{IsProblem, IsRefusal, IsDone, MayEnd, ending_of, IsAnswer}
 
-not_words : (t : Task) (rows : List (List (List ℕ))) → IsDone ending.Words rows t → ⊥
-not_words (task.Solve c) rows is = is
-not_words (task.Audit c plan) rows is = is
+not_words : (t : Task) (rows : List (List (List ℕ))) (filled : ℕ) → IsDone ending.Words rows filled t → ⊥
+not_words (task.Solve c f) rows filled is = is
+not_words (task.Audit c plan) rows filled is = is.0
 
-done_may_end : (c : Command) (t : Task) (e : Ending) (rows : List (List (List ℕ))) → IsTaskOf c t → IsDone e rows t → MayEnd c e
-done_may_end command.Solve (task.Solve c) ending.NotFeasible rows own is = absurd is
-done_may_end command.Solve (task.Solve c) ending.Done rows own is = tt
-done_may_end command.Solve (task.Solve c) ending.Infeasible rows own is = tt
-done_may_end command.Solve (task.Solve c) ending.Words rows own is = absurd is
-done_may_end command.Solve (task.Solve c) ending.Refused rows own is = absurd is
-done_may_end command.Solve (task.Solve c) ending.TooLong rows own is = absurd is
-done_may_end command.Audit (task.Audit c plan) ending.Infeasible rows own is = absurd is
-done_may_end command.Audit (task.Audit c plan) ending.Done rows own is = tt
-done_may_end command.Audit (task.Audit c plan) ending.NotFeasible rows own is = tt
-done_may_end command.Audit (task.Audit c plan) ending.Words rows own is = absurd is
-done_may_end command.Audit (task.Audit c plan) ending.Refused rows own is = absurd is
-done_may_end command.Audit (task.Audit c plan) ending.TooLong rows own is = absurd is
-done_may_end command.Solve (task.Audit c plan) e rows own is = absurd own
-done_may_end command.Audit (task.Solve c) e rows own is = absurd own
+done_may_end : (c : Command) (t : Task) (e : Ending) (rows : List (List (List ℕ))) (filled : ℕ) → IsTaskOf c t → IsDone e rows filled t → MayEnd c e
+done_may_end command.Solve (task.Solve c f) ending.NotFeasible rows filled own is = absurd is
+done_may_end command.Solve (task.Solve c f) ending.Done rows filled own is = tt
+done_may_end command.Solve (task.Solve c f) ending.Infeasible rows filled own is = tt
+done_may_end command.Solve (task.Solve c f) ending.Words rows filled own is = absurd is
+done_may_end command.Solve (task.Solve c f) ending.Refused rows filled own is = absurd is
+done_may_end command.Solve (task.Solve c f) ending.TooLong rows filled own is = absurd is
+done_may_end command.Audit (task.Audit c plan) ending.Infeasible rows filled own is = absurd is.0
+done_may_end command.Audit (task.Audit c plan) ending.Done rows filled own is = tt
+done_may_end command.Audit (task.Audit c plan) ending.NotFeasible rows filled own is = tt
+done_may_end command.Audit (task.Audit c plan) ending.Words rows filled own is = absurd is.0
+done_may_end command.Audit (task.Audit c plan) ending.Refused rows filled own is = absurd is.0
+done_may_end command.Audit (task.Audit c plan) ending.TooLong rows filled own is = absurd is.0
+done_may_end command.Solve (task.Audit c plan) e rows filled own is = absurd own
+done_may_end command.Audit (task.Solve c f) e rows filled own is = absurd own
 
 one_asked : (words : List (List ℕ)) (q r : Asked) → asked_of words ≡ Ok q → asked_of words ≡ Ok r → q ≡ r
 one_asked words q r is also = cc
@@ -46,18 +47,19 @@ not_refused words q is err = (let none = rw is at err in cc)
 no_rule : (words : List (List ℕ)) (q : Asked) (fault : WordFault) → asked_of words ≡ Ok q → asked_of words ≡ Err fault → ⊥
 no_rule words q fault is also = cc
 
-told_done : (words : List (List ℕ)) (held : Option Held) (e : Ending) (rows : List (List (List ℕ))) (t : Task) → IfSome held (λ m. IsProblem words m (Ok t)) → IsDone e rows t
-    → IfSome held (λ m. (problem : Result Task Stop) × IsProblem words m problem × MatchResult problem (IsDone e rows) (IsRefusal e rows))
-told_done words None e rows t is done = tt
-told_done words (Some m) e rows t is done = (Ok t, is, done)
+told_done : (words : List (List ℕ)) (held : Option Held) (e : Ending) (rows : List (List (List ℕ))) (filled : ℕ) (t : Task) → IfSome held (λ m. IsProblem words m (Ok t)) → IsDone e rows filled t
+    → IfSome held (λ m. (problem : Result Task Stop) × IsProblem words m problem × MatchResult problem (IsDone e rows filled) (IsRefusal e rows filled))
+told_done words None e rows filled t is done = tt
+told_done words (Some m) e rows filled t is done = (Ok t, is, done)
 
-pub done_answer : (words : List (List ℕ)) (held : Option Held) (e : Ending) (rows : List (List (List ℕ))) (t : Task) → ((q : Asked) × (asked_of words ≡ Ok q) × IsTaskOf q.command t)
-    → IfSome held (λ m. IsProblem words m (Ok t)) → IsDone e rows t → IsAnswer words held e rows
-done_answer words held e rows t asked is done = record {
-  words = (λ same. absurd (not_words t rows (subst (λ (x : Ending). IsDone x rows t) same done)), λ err. absurd (not_refused words asked.0 asked.1 err));
+pub done_answer : (words : List (List ℕ)) (held : Option Held) (e : Ending) (rows : List (List (List ℕ))) (filled : ℕ) (t : Task) → ((q : Asked) × (asked_of words ≡ Ok q) × IsTaskOf q.command t)
+    → IfSome held (λ m. IsProblem words m (Ok t)) → filled ≤ MOST_FILLED → IsDone e rows filled t → IsAnswer words held e rows filled
+done_answer words held e rows filled t asked is few done = record {
+  words = (λ same. absurd (not_words t rows filled (subst (λ (x : Ending). IsDone x rows filled t) same done)), λ err. absurd (not_refused words asked.0 asked.1 err));
   rule = λ fault also. absurd (no_rule words asked.0 fault asked.1 also);
-  own = λ q also. done_may_end q.command t e rows (subst (λ (x : Asked). IsTaskOf x.command t) (one_asked words asked.0 q asked.1 also) asked.2) done;
-  told = told_done words held e rows t is done;
+  own = λ q also. done_may_end q.command t e rows filled (subst (λ (x : Asked). IsTaskOf x.command t) (one_asked words asked.0 q asked.1 also) asked.2) done;
+  few = few;
+  told = told_done words held e rows filled t is done;
 }
 
 refused_may_end : (c : Command) (s : Stop) → MayEnd c (ending_of s)
@@ -68,10 +70,10 @@ refused_may_end command.Audit (stop.Words fault) = tt
 refused_may_end command.Audit (stop.TooLong word) = tt
 refused_may_end command.Audit (stop.Refused fault) = tt
 
-told_refused : (words : List (List ℕ)) (held : Option Held) (e : Ending) (rows : List (List (List ℕ))) (s : Stop) → IfSome held (λ m. IsProblem words m (Err s)) → IsRefusal e rows s
-    → IfSome held (λ m. (problem : Result Task Stop) × IsProblem words m problem × MatchResult problem (IsDone e rows) (IsRefusal e rows))
-told_refused words None e rows s is line = tt
-told_refused words (Some m) e rows s is line = (Err s, is, line)
+told_refused : (words : List (List ℕ)) (held : Option Held) (e : Ending) (rows : List (List (List ℕ))) (filled : ℕ) (s : Stop) → IfSome held (λ m. IsProblem words m (Err s)) → IsRefusal e rows filled s
+    → IfSome held (λ m. (problem : Result Task Stop) × IsProblem words m problem × MatchResult problem (IsDone e rows filled) (IsRefusal e rows filled))
+told_refused words None e rows filled s is line = tt
+told_refused words (Some m) e rows filled s is line = (Err s, is, line)
 
 words_rule : (words : List (List ℕ)) (rows : List (List (List ℕ))) (s : Stop) (fault : WordFault) → TellsWords words s → rows ≡ stop_row s ∷ [] → asked_of words ≡ Err fault → rows ≡ stop_row (stop.Words fault) ∷ []
 words_rule words rows (stop.Words f) fault tells line also = (let same : f ≡ fault = cc in line ∙ ap (λ (x : WordFault). stop_row (stop.Words x) ∷ []) same)
@@ -91,11 +93,12 @@ words_exactly words (stop.Refused f) tells = (λ same. cc, λ err. absurd (ok_no
     ok_not_err (Ok q) ok err = cc
     ok_not_err (Err g) ok err = cc
 
-pub refused_answer : (words : List (List ℕ)) (held : Option Held) (e : Ending) (rows : List (List (List ℕ))) (s : Stop) → TellsWords words s
-    → IfSome held (λ m. IsProblem words m (Err s)) → IsRefusal e rows s → IsAnswer words held e rows
-refused_answer words held e rows s tells is line = record {
+pub refused_answer : (words : List (List ℕ)) (held : Option Held) (e : Ending) (rows : List (List (List ℕ))) (filled : ℕ) (s : Stop) → TellsWords words s
+    → IfSome held (λ m. IsProblem words m (Err s)) → IsRefusal e rows filled s → IsAnswer words held e rows filled
+refused_answer words held e rows filled s tells is line = record {
   words = (λ same. (words_exactly words s tells).0 (sym line.0 ∙ same), λ err. line.0 ∙ (words_exactly words s tells).1 err);
   rule = λ fault also. words_rule words rows s fault tells line.1 also;
   own = λ q also. subst (λ (x : Ending). MayEnd q.command x) (sym line.0) (refused_may_end q.command s);
-  told = told_refused words held e rows s is line;
+  few = (let none = line.2 in omega (arith, none));
+  told = told_refused words held e rows filled s is line;
 }

@@ -1,7 +1,8 @@
 -- The task of files, by the steps that find it.
 use Rattle.std.proofs.Common.{◌≡◌, ℕ, List, length, Option, Some, None, Result, Ok, Err, refl, sym, subst, ap, ◌∙◌}
-use Rattle.service_model.specs.Search.{or_else}
+use Rattle.std.specs.Option.{MatchOption}
 use Rattle.service_model.specs.declared.plan.Plan.{Plan}
+use Rattle.service_model.specs.Plans.{HasTimes}
 use Rattle.stage_file.specs.declared.raw.RawNet.{RawNet}
 use Rattle.stage_file.specs.declared.fault.FileFault.{FileFault}
 use Rattle.stage_file.specs.declared.fault.ReadFault.{ReadFault}
@@ -13,7 +14,7 @@ use Rattle.stage_file.specs.Rows.{rows_of_bytes}
 use Rattle.stage_file.specs.declared.raw.Files.{Files}
 use Rattle.stage_file.specs.Raw.{raw_fault, raw_of}
 use Rattle.network_check.specs.declared.checked.Checked.{Checked}
-use Rattle.network_check.specs.Checked.{checked_from, IsChecked}
+use Rattle.network_check.specs.Checked.{IsNetworkOf, IsChecked}
 use Rattle.network_check.specs.Refusals.{IsFirstTogether, RecordsCase}
 use Rattle.planner_top.specs.declared.command.Command.{Command}
 use Rattle.planner_top.specs.declared.command.Command.TheVariants as command
@@ -23,8 +24,8 @@ use Rattle.planner_top.specs.declared.task.Task.TheVariants as task
 use Rattle.planner_top.specs.declared.stop.Stop.TheVariants as stop
 use Rattle.planner_top.specs.declared.stop.Unsolved.{Unsolved}
 use Rattle.planner_top.specs.declared.stop.Unsolved.TheVariants as unsolved
-use Rattle.planner_top.specs.Tasks.{files_in, arcs_fault, last_fault, raw_in, TaskCase, TogetherCase, LastCase, unsolved_by, IsReady}
-use Rattle.planner_top.proofs.TaskFacts.{no_arcs, plan_has_times}
+use Rattle.planner_top.specs.Tasks.{files_in, raw_in, IsLastFault, TaskCase, TogetherCase, LastCase, unsolved_by}
+use Rattle.planner_top.proofs.TaskFacts.{plan_has_times}
 
 -- a rule on one file fails
 pub raw_refused : (c : Command) (horizon : ℕ) (contents : Contents) (files : Files) (f : ReadFault) → files ≡ files_in contents → Reads (raw_fault horizon files) (raw_of horizon files) (Err f) → TaskCase c horizon contents (Err (unsolved_by f))
@@ -39,11 +40,16 @@ records_refused c raw further read.NoMemory is = tt
 -- none does
 pub records_made : (c : Command) (raw : RawNet) (further : List ℕ) (r : Result Task Unsolved) → IsFirstTogether raw None → LastCase c raw further r → TogetherCase c raw further r
 records_made c raw further (Ok t) none is = (none, is.0, is.1, is.2)
-records_made c raw further (Err (unsolved.Stop (stop.Refused fault))) none is = (None, none, sym is)
+records_made c raw further (Err (unsolved.Stop (stop.Refused fault))) none is = (None, none, is)
 records_made c raw further (Err (unsolved.Stop (stop.Words fault))) none is = absurd is
 records_made c raw further (Err (unsolved.Stop (stop.TooLong word))) none is = absurd is
 records_made c raw further (Err (unsolved.Fault word)) none is = absurd is
 records_made c raw further (Err unsolved.NoMemory) none is = tt
+
+behind : (c : Command) (raw : RawNet) (further : List ℕ) (fault : FileFault) (before : Option FileFault)
+    → MatchOption before (IsLastFault c raw further (Some fault)) (λ f. fault ≡ f) → MatchOption before (IsLastFault c raw further (Some fault)) (λ f. (let some : Option FileFault = Some fault in some ≡ Some f))
+behind c raw further fault None is = is
+behind c raw further fault (Some f) is = ap Some is
 
 -- the records are those of files
 pub task_found : (c : Command) (horizon : ℕ) (contents : Contents) (raw : RawNet) (r : Result Task Unsolved) → raw_fault horizon (files_in contents) ≡ None → raw ≡ raw_in horizon contents
@@ -51,27 +57,21 @@ pub task_found : (c : Command) (horizon : ℕ) (contents : Contents) (raw : RawN
 task_found c horizon contents raw r none same is = from r (subst (λ (x : RawNet). TogetherCase c x contents.further r) same is)
   where
     from : (r : Result Task Unsolved) → TogetherCase c (raw_in horizon contents) contents.further r → TaskCase c horizon contents r
-    from (Ok t) is = (((None, rw none is.0, sym is.1), is.2), is.3)
-    from (Err (unsolved.Stop (stop.Refused fault))) is = (is.0, rw none is.1, is.2)
+    from (Ok t) is = (((None, rw none is.0, is.1), is.2), is.3)
+    from (Err (unsolved.Stop (stop.Refused fault))) is = (is.0, rw none is.1, behind c (raw_in horizon contents) contents.further fault is.0 is.2)
     from (Err (unsolved.Stop (stop.Words fault))) is = absurd is
     from (Err (unsolved.Stop (stop.TooLong word))) is = absurd is
     from (Err (unsolved.Fault word)) is = absurd is
     from (Err unsolved.NoMemory) is = tt
 
--- a network without arcs is solved
-pub solve_last : (raw : RawNet) (further : List ℕ) (c : Checked) → c ≡ checked_from raw → IsChecked c → arcs_fault raw.arcs ≡ None → LastCase command.Solve raw further (Ok (task.Solve c))
-solve_last raw further c same checked none =
-    (none, ap task.Solve same, (checked, subst (λ (x : Checked). length x.network.arcs ≡ 0) (sym same) (no_arcs raw none)))
-
 -- a plan that was read is audited
-pub audit_last : (raw : RawNet) (further : List ℕ) (c : Checked) (plan : Plan) → c ≡ checked_from raw → IsChecked c
+pub audit_last : (raw : RawNet) (further : List ℕ) (c : Checked) (plan : Plan) → IsNetworkOf raw c → IsChecked c
     → Reads (plan_file_fault (names_of raw.stages) (rows_of_bytes further)) (plan_of (names_of raw.stages) (rows_of_bytes further)) (Ok plan) → LastCase command.Audit raw further (Ok (task.Audit c plan))
-audit_last raw further c plan same checked is =
-    let times : IsReady (task.Audit (checked_from raw) (plan_of (names_of raw.stages) (rows_of_bytes further))) = (subst (λ (x : Checked). IsChecked x) same checked, plan_has_times raw (rows_of_bytes further)) in
-    (is.0, rw (same, is.1) refl, rw (same, is.1) times)
+audit_last raw further c plan made checked is =
+    (sym is.0, (made, is.1), (checked, subst (λ (p : Plan). HasTimes c.network p) (sym is.1) (plan_has_times raw c (rows_of_bytes further) made checked)))
 
 -- a rule on the plan file fails
 pub audit_refused : (raw : RawNet) (further : List ℕ) (f : ReadFault)
     → Reads (plan_file_fault (names_of raw.stages) (rows_of_bytes further)) (plan_of (names_of raw.stages) (rows_of_bytes further)) (Err f) → LastCase command.Audit raw further (Err (unsolved_by f))
-audit_refused raw further (read.Fault fault) is = is
+audit_refused raw further (read.Fault fault) is = sym is
 audit_refused raw further read.NoMemory is = tt

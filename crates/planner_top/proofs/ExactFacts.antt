@@ -6,6 +6,7 @@ use Rattle.stage_file.specs.declared.fault.FileFault.{FileFault}
 use Rattle.gsm_outside.specs.Held.{Held}
 use Rattle.service_model.specs.declared.plan.Plan.{Plan}
 use Rattle.service_model.specs.Plans.{Feasible, Least, Empty}
+use Rattle.tree_order.specs.declared.forest.Forest.{Forest}
 use Rattle.network_check.specs.declared.checked.Checked.{Checked}
 use Rattle.planner_top.specs.declared.word_fault.WordFault.{WordFault}
 use Rattle.planner_top.specs.declared.task.Task.{Task}
@@ -24,7 +25,7 @@ record ExactlyBy (problem : Result Task Stop) (e : Ending) : Type 0 where
   words : (e ≡ ending.Words) ↔ ((fault : WordFault) × (problem ≡ Err (stop.Words fault)))
   too_long : (e ≡ ending.TooLong) ↔ ((word : FileWord) × (problem ≡ Err (stop.TooLong word)))
   refused : (e ≡ ending.Refused) ↔ ((fault : FileFault) × (problem ≡ Err (stop.Refused fault)))
-  infeasible : (e ≡ ending.Infeasible) ↔ ((c : Checked) × (problem ≡ Ok (task.Solve c)) × Empty c.network)
+  infeasible : (e ≡ ending.Infeasible) ↔ ((c : Checked) × (f : Forest) × (problem ≡ Ok (task.Solve c f)) × Empty c.network)
   not_feasible : (e ≡ ending.NotFeasible) ↔ ((c : Checked) × (plan : Plan) × (problem ≡ Ok (task.Audit c plan)) × (¬ Feasible c.network plan))
   done : (e ≡ ending.Done) ↔ ((t : Task) × (problem ≡ Ok t) × CanBeDone t)
 
@@ -34,37 +35,37 @@ found t = Ok t
 one_found : (t u : Task) → found t ≡ found u → u ≡ t
 one_found t u same = cc
 
-one_network : (c d : Checked) → found (task.Solve c) ≡ found (task.Solve d) → d ≡ c
-one_network c d same = cc
+one_network : (c d : Checked) (f g : Forest) → found (task.Solve c f) ≡ found (task.Solve d g) → d ≡ c
+one_network c d f g same = cc
 
 one_audit : (c d : Checked) (p q : Plan) → found (task.Audit c p) ≡ found (task.Audit d q) → (d ≡ c) × (q ≡ p)
 one_audit c d p q same = (cc, cc)
 
 -- a least plan shows that the network is not empty
-not_empty : (c d : Checked) → d ≡ c → CanBeDone (task.Solve c) → Empty d.network → ⊥
-not_empty c d same least empty = subst (λ (x : Checked). Empty x.network) same empty least.0 least.1.feasible
+not_empty : (c d : Checked) (f : Forest) → d ≡ c → CanBeDone (task.Solve c f) → Empty d.network → ⊥
+not_empty c d f same least empty = subst (λ (x : Checked). Empty x.network) same empty least.0 least.1.feasible
 
-solved_exactly : (c : Checked) (e : Ending) (rows : List (List (List ℕ))) → IsSolution e rows c → ExactlyBy (Ok (task.Solve c)) e
-solved_exactly c ending.Done rows is = record {
+solved_exactly : (c : Checked) (f : Forest) (e : Ending) (rows : List (List (List ℕ))) (filled : ℕ) → IsSolution e rows filled c → ExactlyBy (Ok (task.Solve c f)) e
+solved_exactly c f ending.Done rows filled is = record {
   words = (λ same. cc, λ whole. (let also = whole.1 in cc));
   too_long = (λ same. cc, λ whole. (let also = whole.1 in cc));
   refused = (λ same. cc, λ whole. (let also = whole.1 in cc));
-  infeasible = (λ same. cc, λ whole. absurd (not_empty c whole.0 (one_network c whole.0 whole.1) (is.0, is.1) whole.2));
+  infeasible = (λ same. cc, λ whole. absurd (not_empty c whole.0 f (one_network c whole.0 f whole.1 whole.2) (is.0, is.1) whole.3));
   not_feasible = (λ same. cc, λ whole. (let also = whole.2 in cc));
-  done = (λ same. (task.Solve c, refl, (is.0, is.1)), λ whole. refl);
+  done = (λ same. (task.Solve c f, refl, (is.0, is.1)), λ whole. refl);
 }
-solved_exactly c ending.Infeasible rows is = record {
+solved_exactly c f ending.Infeasible rows filled is = record {
   words = (λ same. cc, λ whole. (let also = whole.1 in cc));
   too_long = (λ same. cc, λ whole. (let also = whole.1 in cc));
   refused = (λ same. cc, λ whole. (let also = whole.1 in cc));
-  infeasible = (λ same. (c, refl, is.0), λ whole. refl);
+  infeasible = (λ same. (c, f, refl, is.0), λ whole. refl);
   not_feasible = (λ same. cc, λ whole. (let also = whole.2 in cc));
-  done = (λ same. cc, λ whole. absurd (not_empty c c refl (subst (λ (t : Task). CanBeDone t) (one_found (task.Solve c) whole.0 whole.1) whole.2) is.0));
+  done = (λ same. cc, λ whole. absurd (not_empty c c f refl (subst (λ (t : Task). CanBeDone t) (one_found (task.Solve c f) whole.0 whole.1) whole.2) is.0));
 }
-solved_exactly c ending.Words rows is = absurd is
-solved_exactly c ending.Refused rows is = absurd is
-solved_exactly c ending.TooLong rows is = absurd is
-solved_exactly c ending.NotFeasible rows is = absurd is
+solved_exactly c f ending.Words rows filled is = absurd is
+solved_exactly c f ending.Refused rows filled is = absurd is
+solved_exactly c f ending.TooLong rows filled is = absurd is
+solved_exactly c f ending.NotFeasible rows filled is = absurd is
 
 breaks_still : (c d : Checked) (p q : Plan) → (d ≡ c) × (q ≡ p) → (¬ Feasible d.network q) → Feasible c.network p → ⊥
 breaks_still c d p q same breaks feasible =
@@ -75,7 +76,7 @@ audited_exactly c p ending.Done rows is = record {
   words = (λ same. cc, λ whole. (let also = whole.1 in cc));
   too_long = (λ same. cc, λ whole. (let also = whole.1 in cc));
   refused = (λ same. cc, λ whole. (let also = whole.1 in cc));
-  infeasible = (λ same. cc, λ whole. (let also = whole.1 in cc));
+  infeasible = (λ same. cc, λ whole. (let also = whole.2 in cc));
   not_feasible = (λ same. cc, λ whole. absurd (breaks_still c whole.0 p whole.1 (one_audit c whole.0 p whole.1 whole.2) whole.3 is.0));
   done = (λ same. (task.Audit c p, refl, is.0), λ whole. refl);
 }
@@ -83,7 +84,7 @@ audited_exactly c p ending.NotFeasible rows is = record {
   words = (λ same. cc, λ whole. (let also = whole.1 in cc));
   too_long = (λ same. cc, λ whole. (let also = whole.1 in cc));
   refused = (λ same. cc, λ whole. (let also = whole.1 in cc));
-  infeasible = (λ same. cc, λ whole. (let also = whole.1 in cc));
+  infeasible = (λ same. cc, λ whole. (let also = whole.2 in cc));
   not_feasible = (λ same. (c, p, refl, is.0), λ whole. refl);
   done = (λ same. cc, λ whole. absurd (is.0 (subst (λ (t : Task). CanBeDone t) (one_found (task.Audit c p) whole.0 whole.1) whole.2)));
 }
@@ -97,7 +98,7 @@ refusal_exactly (stop.Words fault) = record {
   words = (λ same. (fault, refl), λ whole. refl);
   too_long = (λ same. cc, λ whole. (let also = whole.1 in cc));
   refused = (λ same. cc, λ whole. (let also = whole.1 in cc));
-  infeasible = (λ same. cc, λ whole. (let also = whole.1 in cc));
+  infeasible = (λ same. cc, λ whole. (let also = whole.2 in cc));
   not_feasible = (λ same. cc, λ whole. (let also = whole.2 in cc));
   done = (λ same. cc, λ whole. (let also = whole.1 in cc));
 }
@@ -105,7 +106,7 @@ refusal_exactly (stop.TooLong word) = record {
   words = (λ same. cc, λ whole. (let also = whole.1 in cc));
   too_long = (λ same. (word, refl), λ whole. refl);
   refused = (λ same. cc, λ whole. (let also = whole.1 in cc));
-  infeasible = (λ same. cc, λ whole. (let also = whole.1 in cc));
+  infeasible = (λ same. cc, λ whole. (let also = whole.2 in cc));
   not_feasible = (λ same. cc, λ whole. (let also = whole.2 in cc));
   done = (λ same. cc, λ whole. (let also = whole.1 in cc));
 }
@@ -113,15 +114,15 @@ refusal_exactly (stop.Refused fault) = record {
   words = (λ same. cc, λ whole. (let also = whole.1 in cc));
   too_long = (λ same. cc, λ whole. (let also = whole.1 in cc));
   refused = (λ same. (fault, refl), λ whole. refl);
-  infeasible = (λ same. cc, λ whole. (let also = whole.1 in cc));
+  infeasible = (λ same. cc, λ whole. (let also = whole.2 in cc));
   not_feasible = (λ same. cc, λ whole. (let also = whole.2 in cc));
   done = (λ same. cc, λ whole. (let also = whole.1 in cc));
 }
 
-exactly_by : (problem : Result Task Stop) (e : Ending) (rows : List (List (List ℕ))) → MatchResult problem (IsDone e rows) (IsRefusal e rows) → ExactlyBy problem e
-exactly_by (Ok (task.Solve c)) e rows is = solved_exactly c e rows is
-exactly_by (Ok (task.Audit c p)) e rows is = audited_exactly c p e rows is
-exactly_by (Err s) e rows is = subst (λ (x : Ending). ExactlyBy (Err s) x) (sym is.0) (refusal_exactly s)
+exactly_by : (problem : Result Task Stop) (e : Ending) (rows : List (List (List ℕ))) (filled : ℕ) → MatchResult problem (IsDone e rows filled) (IsRefusal e rows filled) → ExactlyBy problem e
+exactly_by (Ok (task.Solve c f)) e rows filled is = solved_exactly c f e rows filled is
+exactly_by (Ok (task.Audit c p)) e rows filled is = audited_exactly c p e rows is.0
+exactly_by (Err s) e rows filled is = subst (λ (x : Ending). ExactlyBy (Err s) x) (sym is.0) (refusal_exactly s)
 
 exactly_from : (words : List (List ℕ)) (m : Held) (problem : Result Task Stop) (e : Ending) → IsProblem words m problem → ExactlyBy problem e → Exactly words m e
 exactly_from words m problem e is by =
@@ -131,13 +132,13 @@ exactly_from words m problem e is by =
       words = (λ same. (let cause = by.words.0 same in (cause.0, put (Err (stop.Words cause.0)) cause.1)), λ whole. by.words.1 (whole.0, one (Err (stop.Words whole.0)) whole.1));
       too_long = (λ same. (let cause = by.too_long.0 same in (cause.0, put (Err (stop.TooLong cause.0)) cause.1)), λ whole. by.too_long.1 (whole.0, one (Err (stop.TooLong whole.0)) whole.1));
       refused = (λ same. (let cause = by.refused.0 same in (cause.0, put (Err (stop.Refused cause.0)) cause.1)), λ whole. by.refused.1 (whole.0, one (Err (stop.Refused whole.0)) whole.1));
-      infeasible = (λ same. (let cause = by.infeasible.0 same in (cause.0, put (Ok (task.Solve cause.0)) cause.1, cause.2)), λ whole. by.infeasible.1 (whole.0, one (Ok (task.Solve whole.0)) whole.1, whole.2));
+      infeasible = (λ same. (let cause = by.infeasible.0 same in (cause.0, cause.1, put (Ok (task.Solve cause.0 cause.1)) cause.2, cause.3)), λ whole. by.infeasible.1 (whole.0, whole.1, one (Ok (task.Solve whole.0 whole.1)) whole.2, whole.3));
       not_feasible = (λ same. (let cause = by.not_feasible.0 same in (cause.0, cause.1, put (Ok (task.Audit cause.0 cause.1)) cause.2, cause.3)), λ whole. by.not_feasible.1 (whole.0, whole.1, one (Ok (task.Audit whole.0 whole.1)) whole.2, whole.3));
       done = (λ same. (let cause = by.done.0 same in (cause.0, put (Ok cause.0) cause.1, cause.2)), λ whole. by.done.1 (whole.0, one (Ok whole.0) whole.1, whole.2));
     }
 
 -- an answer comes exactly where its cause is, on a shelf that tells what it holds
-pub told_exactly : (words : List (List ℕ)) (held : Option Held) (m : Held) (e : Ending) (rows : List (List (List ℕ))) → held ≡ Some m → IsAnswer words held e rows → Exactly words m e
-told_exactly words held m e rows told is =
-    let there = subst (λ (h : Option Held). IfSome h (λ x. (problem : Result Task Stop) × IsProblem words x problem × MatchResult problem (IsDone e rows) (IsRefusal e rows))) told is.told in
-    exactly_from words m there.0 e there.1 (exactly_by there.0 e rows there.2)
+pub told_exactly : (words : List (List ℕ)) (held : Option Held) (m : Held) (e : Ending) (rows : List (List (List ℕ))) (filled : ℕ) → held ≡ Some m → IsAnswer words held e rows filled → Exactly words m e
+told_exactly words held m e rows filled told is =
+    let there = subst (λ (h : Option Held). IfSome h (λ x. (problem : Result Task Stop) × IsProblem words x problem × MatchResult problem (IsDone e rows filled) (IsRefusal e rows filled))) told is.told in
+    exactly_from words m there.0 e there.1 (exactly_by there.0 e rows filled there.2)

@@ -4,7 +4,7 @@ use Rattle.std.specs.Result.{IsOk}
 use Rattle.gsm_outside.specs.Causes.{Rose}
 use Rattle.planner_top.specs.Asked.{asked_of}
 use Rattle.planner_top.specs.Texts.{fault_row}
-use Rattle.planner_top.specs.Runs.{Run, Answered, status_of, StatusCase, FaultCase}
+use Rattle.planner_top.specs.Runs.{Run, IsLater, Answered, status_of, StatusCase, FaultCase}
 use Rattle.planner_top.specs.Headline.{Exactly, Headline}
 use Rattle.planner_top.specs.declared.stop.FileWord.{FileWord}
 use Rattle.planner_top.specs.declared.answer.Ending.{Ending}
@@ -45,16 +45,24 @@ other_ending s e none same = from same none (ending_told e)
     from : status_of e ≡ s → ending_in s ≡ None → ending_in (status_of e) ≡ Some e → ⊥
     from same none is = cc
 
+answered_later : (r : Run) (e : Ending) → Answered r e → IsLater r
+answered_later r e answered = record {
+  reads = omega (arith, answered.0);
+  faults = omega (arith, answered.1);
+  ticks = omega (arith, answered.2.2);
+  few = (let few = answered.2.3.few in let ticks = answered.2.2 in omega (arith, few, ticks));
+}
+
 answered_headline : (r : Run) (e : Ending) → r.held_after ≡ r.held → r.writes_after ≡ r.writes → r.status ≡ status_of e → Answered r e → Headline r
 answered_headline r e shelf writes same answered = record {
   shelf = shelf;
   writes = writes;
-  later = (omega (arith, answered.0), omega (arith, answered.1));
+  later = answered_later r e answered;
   complete = λ sure. (e, same);
   never = (λ also. absurd (other_ending status.Spent e refl (sym same ∙ also)), λ also. absurd (other_ending status.NotAccepted e refl (sym same ∙ also)));
   answer = λ other also. subst (λ (x : Ending). Answered r x) (one_ending other e (sym also ∙ same)) answered;
   exact = λ other m also told.
-      subst (λ (x : Ending). Exactly r.words m x) (one_ending other e (sym also ∙ same)) (told_exactly r.words r.held m e answered.2.0 told answered.2.1);
+      subst (λ (x : Ending). Exactly r.words m x) (one_ending other e (sym also ∙ same)) (told_exactly r.words r.held m e answered.2.0 answered.2.1 told answered.2.3);
   read_fault = λ also. absurd (other_ending status.ReadFault e refl (sym same ∙ also));
   write_fault = λ also. absurd (other_ending status.WriteFault e refl (sym same ∙ also));
   no_memory = λ also. absurd (other_ending status.NoMemory e refl (sym same ∙ also));
@@ -71,7 +79,7 @@ headline_by r status.NotFeasible shelf writes same case = answered_headline r en
 headline_by r status.ReadFault shelf writes same case = record {
   shelf = shelf;
   writes = writes;
-  later = (case.0, omega (arith, case.1.1));
+  later = record { reads = case.0; faults = omega (arith, case.1.1); ticks = omega (arith, case.1.2); few = omega (arith, case.1.2) };
   complete = λ sure. absurd (sure.reads case.1.0);
   never = (λ also. cc, λ also. cc);
   answer = λ e also. absurd (other_ending status.ReadFault e refl (sym also ∙ same));
@@ -83,26 +91,26 @@ headline_by r status.ReadFault shelf writes same case = record {
 headline_by r status.WriteFault shelf writes same case = record {
   shelf = shelf;
   writes = writes;
-  later = (case.0, case.1);
-  complete = λ sure. absurd (sure.writes case.2);
+  later = case.0;
+  complete = λ sure. absurd (sure.writes case.1);
   never = (λ also. cc, λ also. cc);
   answer = λ e also. absurd (other_ending status.WriteFault e refl (sym also ∙ same));
   exact = λ e m also told. absurd (other_ending status.WriteFault e refl (sym also ∙ same));
   read_fault = λ also. cc;
-  write_fault = λ also. (case.2, case.3);
+  write_fault = λ also. (case.1, case.2);
   no_memory = λ also. cc;
 }
 headline_by r status.NoMemory shelf writes same case = record {
   shelf = shelf;
   writes = writes;
-  later = (case.0, case.1);
+  later = case.0;
   complete = λ sure. absurd (sure.memory same);
   never = (λ also. cc, λ also. cc);
   answer = λ e also. absurd (other_ending status.NoMemory e refl (sym also ∙ same));
   exact = λ e m also told. absurd (other_ending status.NoMemory e refl (sym also ∙ same));
   read_fault = λ also. cc;
   write_fault = λ also. cc;
-  no_memory = λ also. case.2;
+  no_memory = λ also. case.1;
 }
 headline_by r status.Spent shelf writes same case = absurd case
 headline_by r status.NotAccepted shelf writes same case = absurd case
@@ -110,17 +118,21 @@ headline_by r status.NotAccepted shelf writes same case = absurd case
 pub headline_from : (r : Run) → r.held_after ≡ r.held → r.writes_after ≡ r.writes → StatusCase r r.status → Headline r
 headline_from r shelf writes case = headline_by r r.status shelf writes refl case
 
+-- where no table was filled, that count keeps its room
+still : (r : Run) → r.reads ≤ r.reads_after → r.faults ≤ r.faults_after → r.ticks_after ≡ r.ticks → IsLater r
+still r reads faults ticks = record { reads = reads; faults = faults; ticks = omega (arith, ticks); few = omega (arith, ticks) }
+
 -- what is left of a run whose read failed
-pub fault_case : (r : Run) (word : FileWord) (s : Status) → r.reads ≤ r.reads_after → Rose r.reads r.reads_after → IsOk (asked_of r.words) → FaultCase word r.written r.written_after r.faults r.faults_after s → StatusCase r s
-fault_case r word status.ReadFault later rose asked case = (later, (rose, case.0, asked, (word, case.1)))
-fault_case r word status.WriteFault later rose asked case = (later, case.0, case.1, inr (fault_row word ∷ [], inr (rose, asked, (word, refl)), case.2))
-fault_case r word status.NoMemory later rose asked (faults, inl same) = (later, faults, inl same)
-fault_case r word status.NoMemory later rose asked (faults, inr part) = (later, faults, inr (fault_row word ∷ [], inr (rose, asked, (word, refl)), part))
-fault_case r word status.Done later rose asked case = absurd case
-fault_case r word status.Infeasible later rose asked case = absurd case
-fault_case r word status.Spent later rose asked case = absurd case
-fault_case r word status.Words later rose asked case = absurd case
-fault_case r word status.Refused later rose asked case = absurd case
-fault_case r word status.TooLong later rose asked case = absurd case
-fault_case r word status.NotAccepted later rose asked case = absurd case
-fault_case r word status.NotFeasible later rose asked case = absurd case
+pub fault_case : (r : Run) (word : FileWord) (s : Status) → r.reads ≤ r.reads_after → Rose r.reads r.reads_after → IsOk (asked_of r.words) → r.ticks_after ≡ r.ticks → FaultCase word r.written r.written_after r.faults r.faults_after s → StatusCase r s
+fault_case r word status.ReadFault later rose asked ticks case = (later, (rose, case.0, ticks, asked, (word, case.1)))
+fault_case r word status.WriteFault later rose asked ticks case = (still r later case.0 ticks, case.1, inr (fault_row word ∷ [], inr (rose, ticks, asked, (word, refl)), case.2))
+fault_case r word status.NoMemory later rose asked ticks (faults, inl same) = (still r later faults ticks, inl same)
+fault_case r word status.NoMemory later rose asked ticks (faults, inr part) = (still r later faults ticks, inr (fault_row word ∷ [], inr (rose, ticks, asked, (word, refl)), part))
+fault_case r word status.Done later rose asked ticks case = absurd case
+fault_case r word status.Infeasible later rose asked ticks case = absurd case
+fault_case r word status.Spent later rose asked ticks case = absurd case
+fault_case r word status.Words later rose asked ticks case = absurd case
+fault_case r word status.Refused later rose asked ticks case = absurd case
+fault_case r word status.TooLong later rose asked ticks case = absurd case
+fault_case r word status.NotAccepted later rose asked ticks case = absurd case
+fault_case r word status.NotFeasible later rose asked ticks case = absurd case

@@ -1,10 +1,8 @@
 pub mod AnswerFacts
 pub mod BreakFacts
 pub mod CaseFacts
-pub mod ChoiceFacts
 pub mod ExactFacts
 pub mod HeadlineFacts
-pub mod LeastFacts
 pub mod ProblemFacts
 pub mod ReadFacts
 pub mod ReportFacts

@@ -3,38 +3,82 @@ use Rattle.std.proofs.Common.{◌≡◌, ℕ, List, [], ◌∷◌, length, map, 
 use Rattle.std.specs.Option.{MatchOption}
 use Rattle.std.specs.Result.{MatchResult}
 use Rattle.std.proofs.lemmas.List.{length-map}
-use Rattle.service_model.specs.Search.{or_else}
+use Rattle.service_model.specs.declared.stage.SupplyArc.{SupplyArc}
 use Rattle.service_model.specs.Plans.{HasTimes}
-use Rattle.stage_file.specs.declared.arcs.ArcRow.{ArcRow}
 use Rattle.stage_file.specs.declared.stages.StageRow.{StageRow}
+use Rattle.stage_file.specs.declared.raw.Files.{Files}
 use Rattle.stage_file.specs.declared.raw.RawNet.{RawNet}
 use Rattle.stage_file.specs.declared.fault.FileFault.{FileFault}
 use Rattle.stage_file.specs.Arcs.{names_of}
 use Rattle.stage_file.specs.PlanRecords.{plan_of}
+use Rattle.stage_file.specs.Raw.{raw_fault, raw_of, IsRawNet}
 use Rattle.gsm_outside.specs.Held.{Held}
-use Rattle.network_check.specs.Checked.{arc_from, stage_from, checked_from}
-use Rattle.network_check.proofs.RefusalLaws.{one_refusal}
+use Rattle.tree_order.specs.declared.forest.Forest.{Forest}
+use Rattle.tree_order.specs.Forest.{IsForest, IsOnlyForest}
+use Rattle.network_check.specs.declared.checked.Checked.{Checked}
+use Rattle.network_check.specs.Checked.{supply_arcs, IsNetworkOf, IsChecked}
+use Rattle.network_check.specs.Refusals.{IsFirstTogether, IsFirstRefusal}
+use Rattle.network_check.proofs.RefusalLaws.{raw_within, one_refusal, one_network_of}
 use Rattle.planner_top.specs.declared.command.Command.{Command}
 use Rattle.planner_top.specs.declared.command.Command.TheVariants as command
 use Rattle.planner_top.specs.declared.contents.Contents.{Contents}
 use Rattle.planner_top.specs.declared.word_fault.WordFault.{WordFault}
 use Rattle.planner_top.specs.declared.task.Task.{Task}
+use Rattle.planner_top.specs.declared.task.Task.TheVariants as task
 use Rattle.planner_top.specs.declared.stop.FileWord.{FileWord}
 use Rattle.planner_top.specs.declared.stop.Stop.{Stop}
 use Rattle.planner_top.specs.declared.stop.Stop.TheVariants as stop
+use Rattle.planner_top.specs.declared.stop.Unsolved.TheVariants as unsolved
 use Rattle.planner_top.specs.Asked.{Asked, asked_of}
 use Rattle.planner_top.specs.Contents.{too_long_of, contents_of}
-use Rattle.planner_top.specs.Tasks.{files_in, arcs_fault, last_fault, task_from, raw_in, IsFirstRefused, IsTask}
+use Rattle.planner_top.specs.Tasks.{files_in, loop_fault, raw_in, IsForestIn, IsLastFault, IsTaskFrom, IsFirstRefused, IsTask, LastCase}
 use Rattle.planner_top.specs.Problems.{IsTaskOf}
 use Rattle.planner_top.specs.Answers.{IsAskedProblem, IsProblem}
 
+-- the first rule that fails behind those on the network is one
+one_last : (c : Command) (raw : RawNet) (further : List ℕ) (a b : Option FileFault) → IsLastFault c raw further a → IsLastFault c raw further b → a ≡ b
+one_last command.Solve raw further a b is also = is.2 ∙ ap (λ (f : Forest). loop_fault raw f.dropped) (sym (is.1.only also.0 also.1.forest)) ∙ sym also.2
+one_last command.Audit raw further a b is also = is ∙ sym also
+
+one_behind : (c : Command) (raw : RawNet) (further : List ℕ) (before a b : Option FileFault)
+    → MatchOption before (IsLastFault c raw further a) (λ f. a ≡ Some f) → MatchOption before (IsLastFault c raw further b) (λ f. b ≡ Some f) → a ≡ b
+one_behind c raw further None a b is also = one_last c raw further a b is also
+one_behind c raw further (Some f) a b is also = is ∙ sym also
+
 one_refused : (c : Command) (horizon : ℕ) (contents : Contents) (a b : Option FileFault) → IsFirstRefused c horizon contents a → IsFirstRefused c horizon contents b → a ≡ b
 one_refused c horizon contents a b is also =
-    is.2 ∙ ap (λ (before : Option FileFault). or_else before (last_fault c (raw_in horizon contents) contents.further)) (one_refusal horizon (files_in contents) is.0 also.0 is.1 also.1) ∙ sym also.2
+    let raw = raw_in horizon contents in
+    let before = one_refusal horizon (files_in contents) also.0 is.0 also.1 is.1 in
+    one_behind c raw contents.further is.0 a b is.2 (subst (λ (x : Option FileFault). MatchOption x (IsLastFault c raw contents.further b) (λ f. b ≡ Some f)) before also.2)
+
+abbrev nothing : Option FileFault
+nothing = None
+
+passes_by : (horizon : ℕ) (files : Files) (before : Option FileFault) → raw_fault horizon files ≡ before
+    → MatchOption before (IsFirstTogether (raw_of horizon files) None) (λ f. nothing ≡ Some f) → IsRawNet (raw_of horizon files) × IsFirstTogether (raw_of horizon files) None
+passes_by horizon files None none is = (raw_within horizon files none, is)
+passes_by horizon files (Some f) some is = cc
+
+passes_behind : (c : Command) (horizon : ℕ) (contents : Contents) (before : Option FileFault) → IsFirstRefusal horizon (files_in contents) before
+    → MatchOption before (IsLastFault c (raw_in horizon contents) contents.further None) (λ f. nothing ≡ Some f) → IsRawNet (raw_in horizon contents) × IsFirstTogether (raw_in horizon contents) None
+passes_behind c horizon contents None first is = passes_by horizon (files_in contents) (raw_fault horizon (files_in contents)) refl first
+passes_behind c horizon contents (Some f) first is = cc
+
+one_task_from : (c : Command) (raw : RawNet) (further : List ℕ) (t u : Task) → IsRawNet raw → IsFirstTogether raw None → IsTaskFrom c raw further t → IsTaskFrom c raw further u → t ≡ u
+one_task_from command.Solve raw further (task.Solve d f) (task.Solve e g) read none is also =
+    ap (λ (x : Checked). task.Solve x f) (one_network_of raw d e read none is.0 also.0) ∙ ap (task.Solve e) (sym (is.1.only g also.1.forest))
+one_task_from command.Audit raw further (task.Audit d p) (task.Audit e q) read none is also =
+    ap (λ (x : Checked). task.Audit x p) (one_network_of raw d e read none is.0 also.0) ∙ ap (task.Audit e) (is.1 ∙ sym also.1)
+one_task_from command.Solve raw further (task.Audit d p) u read none is also = absurd is
+one_task_from command.Audit raw further (task.Solve d f) u read none is also = absurd is
+one_task_from command.Solve raw further (task.Solve d f) (task.Audit e q) read none is also = absurd also
+one_task_from command.Audit raw further (task.Audit d p) (task.Solve e g) read none is also = absurd also
 
 -- what a command does with files is one thing
 one_task : (c : Command) (horizon : ℕ) (contents : Contents) (a b : Result Task Stop) → IsTask c horizon contents a → IsTask c horizon contents b → a ≡ b
-one_task c horizon contents (Ok t) (Ok u) is also = ap Ok (is.1 ∙ sym also.1)
+one_task c horizon contents (Ok t) (Ok u) is also =
+    let passes = passes_behind c horizon contents is.0.0 is.0.1 is.0.2 in
+    ap Ok (one_task_from c (raw_in horizon contents) contents.further t u passes.0 passes.1 is.1 also.1)
 one_task c horizon contents (Ok t) (Err (stop.Refused f)) is also = (let same = one_refused c horizon contents None (Some f) is.0 also in cc)
 one_task c horizon contents (Ok t) (Err (stop.Words f)) is also = absurd also
 one_task c horizon contents (Ok t) (Err (stop.TooLong w)) is also = absurd also
@@ -59,29 +103,50 @@ one_asked (Err fault) m a b is also = is ∙ sym also
 pub one_problem : (words : List (List ℕ)) (m : Held) (a b : Result Task Stop) → IsProblem words m a → IsProblem words m b → a ≡ b
 one_problem words m a b is also = one_asked (asked_of words) m a b is also
 
-own_made : (c : Command) (raw : RawNet) (further : List ℕ) → IsTaskOf c (task_from c raw further)
-own_made command.Solve raw further = tt
-own_made command.Audit raw further = tt
-
 -- what a command does is a task of its own
-pub own_task : (c : Command) (raw : RawNet) (further : List ℕ) (t : Task) → t ≡ task_from c raw further → IsTaskOf c t
-own_task c raw further t same = subst (λ (x : Task). IsTaskOf c x) (sym same) (own_made c raw further)
+pub own_task : (c : Command) (raw : RawNet) (further : List ℕ) (t : Task) → IsTaskFrom c raw further t → IsTaskOf c t
+own_task command.Solve raw further (task.Solve d f) is = tt
+own_task command.Audit raw further (task.Audit d p) is = tt
+own_task command.Solve raw further (task.Audit d p) is = absurd is
+own_task command.Audit raw further (task.Solve d f) is = absurd is
 
-no_rows : (arcs : List ArcRow) → arcs_fault arcs ≡ None → length arcs ≡ 0
-no_rows [] none = refl
-no_rows (a ∷ arcs) none = cc
-
--- a network of records without arcs
-pub no_arcs : (raw : RawNet) → arcs_fault raw.arcs ≡ None → length (checked_from raw).network.arcs ≡ 0
-no_arcs raw none = length-map raw.arcs arc_from ∙ no_rows raw.arcs none
+-- the network of records has as many stages as they
+pub stages_are : (raw : RawNet) (c : Checked) → IsNetworkOf raw c → IsChecked c → length c.network.stages ≡ length raw.stages
+stages_are raw c is checked =
+    sym checked.names ∙ ap (λ (x : Checked). length x.names) is.made ∙ length-map raw.stages (λ (s : StageRow). s.name)
 
 -- a plan of a file has the two times of each stage
-pub plan_has_times : (raw : RawNet) (rows : List (List (List ℕ))) → HasTimes (checked_from raw).network (plan_of (names_of raw.stages) rows)
+pub plan_has_times : (raw : RawNet) (c : Checked) (rows : List (List (List ℕ))) → IsNetworkOf raw c → IsChecked c → HasTimes c.network (plan_of (names_of raw.stages) rows)
 unfolding plan_of
-plan_has_times raw rows =
-    let names : length (names_of raw.stages) ≡ length raw.stages = length-map raw.stages (λ (s : StageRow). s.name) in
-    let stages : length (checked_from raw).network.stages ≡ length raw.stages = length-map raw.stages (stage_from raw) in
+plan_has_times raw c rows is checked =
+    let names : length (names_of raw.stages) ≡ length c.network.stages = length-map raw.stages (λ (s : StageRow). s.name) ∙ sym (stages_are raw c is checked) in
     record {
-      inbound = length-map (names_of raw.stages) _ ∙ names ∙ sym stages;
-      outbound = length-map (names_of raw.stages) _ ∙ names ∙ sym stages;
+      inbound = length-map (names_of raw.stages) _ ∙ names;
+      outbound = length-map (names_of raw.stages) _ ∙ names;
     }
+
+no_loop : (raw : RawNet) (dropped : List ℕ) → loop_fault raw dropped ≡ None → dropped ≡ []
+no_loop raw [] none = refl
+no_loop raw (a ∷ dropped) none = cc
+
+-- the forest of the network is that of the records
+pub forest_in : (raw : RawNet) (c : Checked) (f : Forest) → IsNetworkOf raw c → IsChecked c → IsForest (length c.network.stages) c.network.arcs f → IsOnlyForest (length c.network.stages) c.network.arcs f → IsForestIn raw f
+forest_in raw c f is checked forest only =
+    let stages = stages_are raw c is checked in
+    let arcs : c.network.arcs ≡ supply_arcs raw = ap (λ (x : Checked). x.network.arcs) is.made in
+    record {
+      forest = subst (λ (n : ℕ). IsForest n (supply_arcs raw) f) stages (subst (λ (xs : List SupplyArc). IsForest (length c.network.stages) xs f) arcs forest);
+      only = subst (λ (n : ℕ). IsOnlyForest n (supply_arcs raw) f) stages (subst (λ (xs : List SupplyArc). IsOnlyForest (length c.network.stages) xs f) arcs only);
+    }
+
+-- a network whose forest drops no arc is solved
+pub solve_last : (raw : RawNet) (further : List ℕ) (c : Checked) (f : Forest) → IsNetworkOf raw c → IsChecked c → IsForest (length c.network.stages) c.network.arcs f
+    → IsOnlyForest (length c.network.stages) c.network.arcs f → loop_fault raw f.dropped ≡ None → LastCase command.Solve raw further (Ok (task.Solve c f))
+solve_last raw further c f is checked forest only none =
+    let there = forest_in raw c f is checked forest only in
+    ((f, there, sym none), (is, there), (checked, forest, no_loop raw f.dropped none))
+
+-- another is refused
+pub solve_refused : (raw : RawNet) (further : List ℕ) (c : Checked) (f : Forest) (fault : FileFault) → IsNetworkOf raw c → IsChecked c → IsForest (length c.network.stages) c.network.arcs f
+    → IsOnlyForest (length c.network.stages) c.network.arcs f → loop_fault raw f.dropped ≡ Some fault → LastCase command.Solve raw further (Err (unsolved.Stop (stop.Refused fault)))
+solve_refused raw further c f fault is checked forest only some = (f, forest_in raw c f is checked forest only, sym some)

@@ -1,5 +1,5 @@
 -- What a run answers to its words and files, where no call on the outside failed and memory sufficed.
-use Rattle.std.specs.Prelude.{◌≡◌, ◌↔◌, ℕ, List, [], ◌∷◌, Option, Some, Result, Ok, Err, IsErr, MatchResult, MatchOption, IfSome, ⊤}
+use Rattle.std.specs.Prelude.{◌≡◌, ◌≤◌, ◌↔◌, ℕ, List, [], ◌∷◌, length, Option, Some, Result, Ok, Err, IsErr, MatchResult, MatchOption, IfSome, ⊤}
 use Rattle.service_model.specs.declared.plan.Plan.{Plan}
 use Rattle.service_model.specs.declared.breaks.Break.{Break}
 use Rattle.service_model.specs.Plans.{Feasible, Least, Empty}
@@ -10,6 +10,7 @@ use Rattle.planner_top.specs.Asked.{Asked, asked_of}
 use Rattle.planner_top.specs.Contents.{too_long_of, contents_of}
 use Rattle.planner_top.specs.Tasks.{IsTask}
 use Rattle.planner_top.specs.Texts.{plan_rows, infeasible_rows, audit_rows, broken_row, stop_row}
+use Rattle.planner_top.specs.declared.filled.TheConstants.{MOST_FILLED}
 use Rattle.planner_top.specs.declared.command.Command.{Command}
 use Rattle.planner_top.specs.declared.command.Command.TheVariants as command
 use Rattle.planner_top.specs.declared.word_fault.WordFault.{WordFault}
@@ -37,14 +38,15 @@ ending_of (stop.TooLong word) = ending.TooLong
 ending_of (stop.Refused fault) = ending.Refused
 
 -- a refusal, with its line
-abbrev pub IsRefusal : Ending → List (List (List ℕ)) → Stop → Type 0
-IsRefusal e rows s = (e ≡ ending_of s) × (rows ≡ stop_row s ∷ [])
+abbrev pub IsRefusal : Ending → List (List (List ℕ)) → ℕ → Stop → Type 0
+IsRefusal e rows filled s = (e ≡ ending_of s) × (rows ≡ stop_row s ∷ []) × (filled ≡ 0)
 
--- the solution of a network, with its lines: a least plan, or none where no plan is feasible
-abbrev pub IsSolution : Ending → List (List (List ℕ)) → Checked → Type 0
-IsSolution ending.Done rows c = (plan : Plan) × Least c.network plan × (rows ≡ plan_rows c plan)
-IsSolution ending.Infeasible rows c = Empty c.network × (rows ≡ infeasible_rows)
-IsSolution _ rows c = ⊥
+-- the solution of a network, with its lines: a least plan, or none where no plan is feasible; a table was filled for each stage
+abbrev pub IsSolution : Ending → List (List (List ℕ)) → ℕ → Checked → Type 0
+IsSolution ending.Done rows filled c =
+    (plan : Plan) × Least c.network plan × (rows ≡ plan_rows c plan filled) × (filled ≡ length c.network.stages)
+IsSolution ending.Infeasible rows filled c = Empty c.network × (rows ≡ infeasible_rows filled) × (filled ≡ length c.network.stages)
+IsSolution _ rows filled c = ⊥
 
 -- the audit of a plan, with its lines: it is feasible, or the first rule that it breaks
 abbrev pub IsAudit : Ending → List (List (List ℕ)) → Checked → Plan → Type 0
@@ -53,10 +55,10 @@ IsAudit ending.NotFeasible rows c plan =
     (¬ Feasible c.network plan) × ((broken : Break) × (first_break_of c.network plan ≡ Some broken) × (rows ≡ broken_row c broken ∷ []))
 IsAudit _ rows c plan = ⊥
 
--- a task that is done, with its lines
-abbrev pub IsDone : Ending → List (List (List ℕ)) → Task → Type 0
-IsDone e rows (task.Solve c) = IsSolution e rows c
-IsDone e rows (task.Audit c plan) = IsAudit e rows c plan
+-- a task that is done, with its lines and the number of tables that were filled for it
+abbrev pub IsDone : Ending → List (List (List ℕ)) → ℕ → Task → Type 0
+IsDone e rows filled (task.Solve c f) = IsSolution e rows filled c
+IsDone e rows filled (task.Audit c plan) = IsAudit e rows c plan × (filled ≡ 0)
 
 -- a command may end so
 abbrev pub MayEnd : Command → Ending → Type 0
@@ -64,11 +66,12 @@ MayEnd command.Solve ending.NotFeasible = ⊥
 MayEnd command.Audit ending.Infeasible = ⊥
 MayEnd _ _ = ⊤
 
--- an ending with its rows is the answer to words and to what a shelf holds, where the shelf tells
-pub record IsAnswer (said : List (List ℕ)) (held : Option Held) (e : Ending) (rows : List (List (List ℕ))) : Type 0 where
+-- an ending with its rows and the number of tables that were filled is the answer to words and to what a shelf holds, where the shelf tells
+pub record IsAnswer (said : List (List ℕ)) (held : Option Held) (e : Ending) (rows : List (List (List ℕ))) (filled : ℕ) : Type 0 where
   -- the words are refused exactly where a rule on them fails, and by the line of the first that does
   pub words : (e ≡ ending.Words) ↔ IsErr (asked_of said)
   pub rule : (fault : WordFault) → asked_of said ≡ Err fault → rows ≡ stop_row (stop.Words fault) ∷ []
   pub own : (q : Asked) → asked_of said ≡ Ok q → MayEnd q.command e
+  pub few : filled ≤ MOST_FILLED
   -- the refusal that the words and files ask for, or else what they ask to be done
-  pub told : IfSome held (λ m. (problem : Result Task Stop) × IsProblem said m problem × MatchResult problem (IsDone e rows) (IsRefusal e rows))
+  pub told : IfSome held (λ m. (problem : Result Task Stop) × IsProblem said m problem × MatchResult problem (IsDone e rows filled) (IsRefusal e rows filled))

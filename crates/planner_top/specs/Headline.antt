@@ -1,13 +1,14 @@
 -- The promise of the top call.
-use Rattle.std.specs.Prelude.{◌≡◌, ◌≢◌, ◌≤◌, ◌↔◌, ℕ, List, Some, Ok, Err}
+use Rattle.std.specs.Prelude.{◌≡◌, ◌≢◌, ◌↔◌, ℕ, List, Some, Ok, Err}
 use Rattle.stage_file.specs.declared.fault.FileFault.{FileFault}
+use Rattle.tree_order.specs.declared.forest.Forest.{Forest}
 use Rattle.network_check.specs.declared.checked.Checked.{Checked}
 use Rattle.gsm_outside.specs.Held.{Held}
 use Rattle.gsm_outside.specs.Causes.{Rose}
 use Rattle.service_model.specs.declared.plan.Plan.{Plan}
 use Rattle.service_model.specs.Plans.{Feasible, Least, Empty}
 use Rattle.planner_top.specs.Answers.{IsProblem}
-use Rattle.planner_top.specs.Runs.{Run, Answered, FailedRead, PartPrinted, status_of}
+use Rattle.planner_top.specs.Runs.{Run, IsLater, Answered, FailedRead, PartPrinted, status_of}
 use Rattle.planner_top.specs.declared.task.Task.{Task}
 use Rattle.planner_top.specs.declared.task.Task.TheVariants as task
 use Rattle.planner_top.specs.declared.word_fault.WordFault.{WordFault}
@@ -20,7 +21,7 @@ use Rattle.planner_top.specs.declared.status.Status.TheVariants as status
 
 -- a task that can be done: there is a least plan, or the plan is feasible
 abbrev pub CanBeDone : Task → Type 0
-CanBeDone (task.Solve c) = (plan : Plan) × Least c.network plan
+CanBeDone (task.Solve c f) = (plan : Plan) × Least c.network plan
 CanBeDone (task.Audit c plan) = Feasible c.network plan
 
 -- which ending comes exactly where, by what words and files ask to be done, or their refusal
@@ -28,7 +29,7 @@ pub record Exactly (said : List (List ℕ)) (m : Held) (e : Ending) : Type 0 whe
   pub words : (e ≡ ending.Words) ↔ ((fault : WordFault) × IsProblem said m (Err (stop.Words fault)))
   pub too_long : (e ≡ ending.TooLong) ↔ ((word : FileWord) × IsProblem said m (Err (stop.TooLong word)))
   pub refused : (e ≡ ending.Refused) ↔ ((fault : FileFault) × IsProblem said m (Err (stop.Refused fault)))
-  pub infeasible : (e ≡ ending.Infeasible) ↔ ((c : Checked) × IsProblem said m (Ok (task.Solve c)) × Empty c.network)
+  pub infeasible : (e ≡ ending.Infeasible) ↔ ((c : Checked) × (f : Forest) × IsProblem said m (Ok (task.Solve c f)) × Empty c.network)
   pub not_feasible : (e ≡ ending.NotFeasible) ↔ ((c : Checked) × (plan : Plan) × IsProblem said m (Ok (task.Audit c plan)) × (¬ Feasible c.network plan))
   pub done : (e ≡ ending.Done) ↔ ((t : Task) × IsProblem said m (Ok t) × CanBeDone t)
 
@@ -39,10 +40,10 @@ pub record IsSure (r : Run) : Type 0 where
   pub memory : r.status ≢ status.NoMemory
 
 pub record Headline (r : Run) : Type 0 where
-  -- whatever the status, the shelf holds what it held, no write to it failed, and no count falls
+  -- whatever the status, the shelf holds what it held, no write to it failed, no count falls, and that of filled tables keeps its room
   pub shelf : r.held_after ≡ r.held
   pub writes : r.writes_after ≡ r.writes
-  pub later : (r.reads ≤ r.reads_after) × (r.faults ≤ r.faults_after)
+  pub later : IsLater r
   -- where no call failed and memory sufficed there is an answer
   pub complete : IsSure r → (e : Ending) × (r.status ≡ status_of e)
   -- no other status comes, whatever failed

@@ -6,7 +6,6 @@ pub mod Requests
 pub mod Reading
 pub mod Contents
 pub mod Tasks
-pub mod Choices
 pub mod Texts
 pub mod Reports
 pub mod Answers

@@ -1,10 +1,11 @@
 -- What the calls give that a run is made of, with the count of failed reads before and after them.
-use Rattle.std.specs.Prelude.{◌≡◌, ◌≤◌, ℕ, List, Option, Result, Ok, Err, IsOk, IfSome, ⊤}
+use Rattle.std.specs.Prelude.{◌≡◌, ◌≤◌, ◌+◌, ℕ, List, Option, Result, Ok, Err, IsOk, IfSome, ⊤}
 use Rattle.gsm_outside.specs.Held.{Held}
 use Rattle.gsm_outside.specs.Causes.{Rose}
 use Rattle.planner_top.specs.Asked.{Asked, asked_of}
 use Rattle.planner_top.specs.Tasks.{IsReady}
 use Rattle.planner_top.specs.Answers.{IsAskedProblem, IsProblem, MayEnd, IsAnswer}
+use Rattle.planner_top.specs.declared.filled.TheConstants.{MOST_FILLED}
 use Rattle.planner_top.specs.declared.command.Command.{Command}
 use Rattle.planner_top.specs.declared.command.Command.TheVariants as command
 use Rattle.planner_top.specs.declared.task.Task.{Task}
@@ -25,7 +26,7 @@ TellsWords words (stop.Refused fault) = IsOk (asked_of words)
 
 -- a task is the one of a command
 abbrev pub IsTaskOf : Command → Task → Type 0
-IsTaskOf command.Solve (task.Solve c) = ⊤
+IsTaskOf command.Solve (task.Solve c f) = ⊤
 IsTaskOf command.Audit (task.Audit c plan) = ⊤
 IsTaskOf _ _ = ⊥
 
@@ -46,8 +47,11 @@ ProblemCase words held before now (Err (unsolved.Stop s)) =
 ProblemCase words held before now (Err (unsolved.Fault word)) = (before ≤ now) × Rose before now × IsOk (asked_of words)
 ProblemCase words held before now (Err unsolved.NoMemory) = before ≤ now
 
--- the answer to the words, or why there is none
-abbrev pub AnswerCase : List (List ℕ) → Option Held → ℕ → ℕ → Result Answer Unanswered → Type 0
-AnswerCase words held before now (Ok a) = (now ≡ before) × IsAnswer words held a.ending a.rows
-AnswerCase words held before now (Err (unanswered.Fault word)) = (before ≤ now) × Rose before now × IsOk (asked_of words)
-AnswerCase words held before now (Err unanswered.NoMemory) = before ≤ now
+-- the answer to the words, or why there is none, with the count of filled tables before and after
+abbrev pub AnswerCase : List (List ℕ) → Option Held → ℕ → ℕ → ℕ → ℕ → Result Answer Unanswered → Type 0
+AnswerCase words held before now ticks ticked (Ok a) =
+    (now ≡ before) × ((filled : ℕ) × (ticked ≡ ticks + filled) × IsAnswer words held a.ending a.rows filled)
+AnswerCase words held before now ticks ticked (Err (unanswered.Fault word)) =
+    (before ≤ now) × Rose before now × IsOk (asked_of words) × (ticked ≡ ticks)
+AnswerCase words held before now ticks ticked (Err unanswered.NoMemory) =
+    (before ≤ now) × (ticks ≤ ticked) × (ticked ≤ ticks + MOST_FILLED)

@@ -10,10 +10,9 @@ use Rattle.service_model.specs.Plans.{inbound_at, outbound_at, cost_of}
 use Rattle.stage_file.specs.declared.fault.FileFault.{FileFault}
 use Rattle.stage_file.specs.declared.fault.FileKind.{FileKind}
 use Rattle.stage_file.specs.declared.fault.FileKind.TheVariants as kind
-use Rattle.network_check.specs.declared.not_yet.TheConstants.{BOUND_NOT_YET}
 use Rattle.network_check.specs.declared.checked.Checked.{Checked}
 use Rattle.network_check.specs.Checked.{name_at, unit_at, excess_at}
-use Rattle.planner_top.specs.declared.not_yet.TheConstants.{ARCS_NOT_YET}
+use Rattle.planner_top.specs.declared.not_yet.TheConstants.{LOOP_NOT_YET}
 use Rattle.planner_top.specs.declared.word_fault.WordFault.{WordFault}
 use Rattle.planner_top.specs.declared.stop.FileWord.{FileWord}
 use Rattle.planner_top.specs.declared.stop.FileWord.TheVariants as file
@@ -53,13 +52,18 @@ report_rows c p = map (report_row c p) (range_with_len 0 (length c.network.stage
 abbrev pub ranges_row : List (List ℕ)
 ranges_row = codes "ranges" ∷ codes "1" ∷ []
 
+-- how many tables were filled
+abbrev pub filled_row : ℕ → List (List ℕ)
+filled_row filled = codes "filled" ∷ decimal filled ∷ []
+
 -- what is printed for a least plan
-abbrev pub plan_rows : Checked → Plan → List (List (List ℕ))
-plan_rows c p = (codes "optimal" ∷ decimal (cost_of c.network p) ∷ []) ∷ report_header ∷ (report_rows c p ++ ranges_row ∷ [])
+abbrev pub plan_rows : Checked → Plan → ℕ → List (List (List ℕ))
+plan_rows c p filled =
+    (codes "optimal" ∷ decimal (cost_of c.network p) ∷ []) ∷ report_header ∷ (report_rows c p ++ ranges_row ∷ filled_row filled ∷ [])
 
 -- what is printed where no plan is feasible
-abbrev pub infeasible_rows : List (List (List ℕ))
-infeasible_rows = (codes "infeasible" ∷ []) ∷ ranges_row ∷ []
+abbrev pub infeasible_rows : ℕ → List (List (List ℕ))
+infeasible_rows filled = (codes "infeasible" ∷ []) ∷ ranges_row ∷ filled_row filled ∷ []
 
 -- what is printed for a feasible plan
 abbrev pub audit_rows : Checked → Plan → List (List (List ℕ))
@@ -92,8 +96,7 @@ kind_text kind.Words = codes "words"
 -- a rule on files: `F` and its number, or the name of what is not solved yet
 unfoldable pub rule_text : ℕ → List ℕ
 rule_text rule =
-    if rule == BOUND_NOT_YET then codes "BoundNotYet"
-    else if rule == ARCS_NOT_YET then codes "ArcsNotYet"
+    if rule == LOOP_NOT_YET then codes "LoopNotYet"
     else codes "F" ++ decimal rule
 
 -- the rule on words that fails, and its place

@@ -1,5 +1,5 @@
 // From the words to the answer.
-ghost use Rattle.std.specs.Prelude.{◌≡◌, ◌≤◌, IfOk};
+ghost use Rattle.std.specs.Prelude.{◌≡◌, ◌≤◌, ◌+◌, ◌-◌, ◌^◌, IfOk, OnErr};
 ghost use Rattle.service_model.specs.declared.limits.TheConstants.{MAX_HORIZON};
 ghost use Rattle.planner_top.specs.Requests.{request_as};
 ghost use Rattle.planner_top.specs.Tasks.{IsReady};
@@ -10,6 +10,7 @@ use crate::answer::{Answer, Unanswered};
 use crate::asked::Request;
 use crate::audit::audit_of;
 use crate::files::read_files;
+use crate::filled::MOST_FILLED;
 use crate::refusal::refusal_of;
 use crate::request::request_of;
 use crate::solve::solution_of;
@@ -19,19 +20,22 @@ use crate::words::Words;
 use gsm_outside::Shelf;
 use service_model::NoMemory;
 use std::alloc::Global;
+use step_ledger::Steps;
 
-/// The answer to the words, with the rows that are printed.
-pub fn answer_of<S: Shelf>(
+/// The answer to the words, with the rows that are printed. The steps count the tables that are filled.
+pub fn answer_of<S: Shelf, L>(
     alloc: Global,
     words: &Words,
     shelf: &mut S,
+    steps: &mut Steps<L>,
 ) -> Result<Answer, Unanswered>
-    ensures case { AnswerCase words.now (S.held shelf.old) (S.read_faults shelf.old) (S.read_faults shelf.new) result }
+    requires { steps.old ≤ 2 ^ 62 }
+    ensures case { AnswerCase words.now (S.held shelf.old) (S.read_faults shelf.old) (S.read_faults shelf.new) steps.old steps.new result }
     ensures held { S.held shelf.new ≡ S.held shelf.old }
     ensures writes { S.write_faults shelf.new ≡ S.write_faults shelf.old }
 {
     match problem_of(alloc, words, shelf) {
-        Ok(task) => Ok(done_of(alloc, &task)?),
+        Ok(task) => Ok(done_of(alloc, &task, steps)?),
         Err(Unsolved::Stop(stop)) => Ok(refusal_of(alloc, stop)?),
         Err(Unsolved::Fault(file)) => Err(Unanswered::Fault(file)),
         Err(Unsolved::NoMemory) => Err(Unanswered::NoMemory),
@@ -68,12 +72,15 @@ fn asked_problem<S: Shelf>(
 }
 
 // The task done.
-fn done_of(alloc: Global, task: &Task) -> Result<Answer, NoMemory>
-    requires { IsReady task.now }
-    ensures { IfOk result (λ a. IsDone a.ending a.rows task.now) }
+fn done_of<L>(alloc: Global, task: &Task, steps: &mut Steps<L>) -> Result<Answer, NoMemory>
+    requires ready { IsReady task.now }
+    requires room { steps.old ≤ 2 ^ 62 }
+    ensures done { IfOk result (λ a. IsDone a.ending a.rows (steps.new - steps.old) task.now) }
+    ensures later { steps.old ≤ steps.new }
+    ensures few { steps.new ≤ steps.old + MOST_FILLED }
 {
     match task {
-        Task::Solve(checked) => solution_of(alloc, checked),
+        Task::Solve(checked, forest) => solution_of(alloc, checked, forest, steps),
         Task::Audit(checked, plan) => audit_of(alloc, checked, plan),
     }
 }

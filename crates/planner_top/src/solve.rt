@@ -1,11 +1,13 @@
 // The answer of `solve`.
-ghost use Rattle.std.specs.Prelude.{◌≡◌, IfOk, length};
+ghost use Rattle.std.specs.Prelude.{◌≡◌, ◌≤◌, ◌+◌, ◌-◌, ◌^◌, [], IfOk, length};
 ghost use Rattle.service_model.specs.Plans.{Feasible};
+ghost use Rattle.tree_order.specs.Forest.{IsForest};
 ghost use Rattle.network_check.specs.Checked.{IsChecked};
-ghost use Rattle.planner_top.specs.Texts.{plan_rows, infeasible_rows, ranges_row};
+ghost use Rattle.planner_top.specs.Texts.{plan_rows, infeasible_rows, ranges_row, filled_row};
 ghost use Rattle.planner_top.specs.Answers.{IsSolution};
 
 use crate::answer::{Answer, Ending};
+use crate::filled::MOST_FILLED;
 use crate::least::least_plan;
 use crate::report::{push_report, report_header};
 use crate::text::{number, row_of};
@@ -13,29 +15,46 @@ use network_check::Checked;
 use service_model::{List, NoMemory, Plan};
 use stage_file::{Row, Rows};
 use std::alloc::Global;
+use step_ledger::Steps;
+use tree_order::Forest;
 
-/// The least plan of a network without arcs with its report, or that there is none.
-pub fn solution_of(alloc: Global, checked: &Checked) -> Result<Answer, NoMemory>
+/// The least plan of a network whose forest drops no arc with its report, or that there is none.
+pub fn solution_of<L>(
+    alloc: Global,
+    checked: &Checked,
+    forest: &Forest,
+    steps: &mut Steps<L>,
+) -> Result<Answer, NoMemory>
     requires checked { IsChecked checked.now }
-    requires no_arcs { length checked.now.network.arcs ≡ 0 }
-    ensures { IfOk result (λ a. IsSolution a.ending a.rows checked.now) }
+    requires forest { IsForest (length checked.now.network.stages) checked.now.network.arcs forest.now }
+    requires tree { forest.now.dropped ≡ [] }
+    requires room { steps.old ≤ 2 ^ 62 }
+    ensures solution { IfOk result (λ a. IsSolution a.ending a.rows (steps.new - steps.old) checked.now) }
+    ensures later { steps.old ≤ steps.new }
+    ensures few { steps.new ≤ steps.old + MOST_FILLED }
 {
-    match least_plan(alloc, &checked.network)? {
+    let before = steps.count();
+    match least_plan(alloc, &checked.network, forest, steps)? {
         Some(plan) => Ok(Answer {
             ending: Ending::Done,
-            rows: plan_rows(alloc, checked, &plan)?,
+            rows: plan_rows(alloc, checked, &plan, steps.count() - before)?,
         }),
         None => Ok(Answer {
             ending: Ending::Infeasible,
-            rows: infeasible_rows(alloc)?,
+            rows: infeasible_rows(alloc, steps.count() - before)?,
         }),
     }
 }
 
-fn plan_rows(alloc: Global, checked: &Checked, plan: &Plan) -> Result<Rows, NoMemory>
+fn plan_rows(
+    alloc: Global,
+    checked: &Checked,
+    plan: &Plan,
+    filled: u64,
+) -> Result<Rows, NoMemory>
     requires checked { IsChecked checked.now }
     requires feasible { Feasible checked.now.network plan.now }
-    ensures { IfOk result (λ rows. rows ≡ plan_rows checked.now plan.now) }
+    ensures { IfOk result (λ rows. rows ≡ plan_rows checked.now plan.now filled) }
 {
     let mut outcome = List::new(alloc);
     outcome.push(List::copied(alloc, b"optimal")?)?;
@@ -45,15 +64,17 @@ fn plan_rows(alloc: Global, checked: &Checked, plan: &Plan) -> Result<Rows, NoMe
     rows.push(report_header(alloc)?)?;
     push_report(alloc, checked, plan, &mut rows)?;
     rows.push(ranges_row(alloc)?)?;
+    rows.push(filled_row(alloc, filled)?)?;
     Ok(rows)
 }
 
-fn infeasible_rows(alloc: Global) -> Result<Rows, NoMemory>
-    ensures { IfOk result (λ rows. rows ≡ infeasible_rows) }
+fn infeasible_rows(alloc: Global, filled: u64) -> Result<Rows, NoMemory>
+    ensures { IfOk result (λ rows. rows ≡ infeasible_rows filled) }
 {
     let mut rows = List::new(alloc);
     rows.push(row_of(alloc, &["infeasible"])?)?;
     rows.push(ranges_row(alloc)?)?;
+    rows.push(filled_row(alloc, filled)?)?;
     Ok(rows)
 }
 
@@ -62,4 +83,13 @@ fn ranges_row(alloc: Global) -> Result<Row, NoMemory>
     ensures { IfOk result (λ row. row ≡ ranges_row) }
 {
     row_of(alloc, &["ranges", "1"])
+}
+
+// The number of tables that were filled.
+fn filled_row(alloc: Global, filled: u64) -> Result<Row, NoMemory>
+    ensures { IfOk result (λ row. row ≡ filled_row filled) }
+{
+    let mut row = row_of(alloc, &["filled"])?;
+    row.push(number(alloc, filled)?)?;
+    Ok(row)
 }

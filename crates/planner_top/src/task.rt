@@ -1,5 +1,5 @@
 // From the bytes of files to what is to be done with their network.
-ghost use Rattle.std.specs.Prelude.{◌≡◌, ◌≤◌, IfOk, length};
+ghost use Rattle.std.specs.Prelude.{◌≡◌, ◌≤◌, ◌<◌, [], IfOk, All, length};
 ghost use Rattle.service_model.specs.declared.limits.TheConstants.{MAX_HORIZON};
 ghost use Rattle.stage_file.specs.Raw.{AreFiles, IsRawNet};
 ghost use Rattle.stage_file.specs.Rows.{rows_of_bytes};
@@ -7,27 +7,28 @@ ghost use Rattle.stage_file.specs.Records.{AreCountable};
 ghost use Rattle.stage_file.specs.Arcs.{names_of};
 ghost use Rattle.stage_file.specs.PlanRecords.{plan_file_fault, plan_of};
 ghost use Rattle.stage_file.specs.Faults.{Reads};
-ghost use Rattle.network_check.specs.Checked.{checked_from, IsChecked};
+ghost use Rattle.network_check.specs.Checked.{IsNetworkOf, IsChecked};
 ghost use Rattle.planner_top.specs.Contents.{AreShort};
-ghost use Rattle.planner_top.specs.Tasks.{files_in, arcs_fault, TaskCase, TogetherCase, LastCase};
+ghost use Rattle.planner_top.specs.Tasks.{files_in, loop_fault, TaskCase, TogetherCase, LastCase};
 
 use crate::command::Command;
 use crate::contents::Contents;
 use crate::files::FILE_LIMIT;
-use crate::not_yet::ARCS_NOT_YET;
+use crate::not_yet::LOOP_NOT_YET;
 use crate::stop::{Stop, Unsolved, unsolved_by};
 use network_check::{Checked, check_records};
 use service_model::{NoMemory, Plan};
 use stage_file::{
-    ArcRow, FileFault, FileKind, Files, RawNet, ReadFault, Rows, raw_net, read_plan, rows_of,
+    FileFault, FileKind, Files, RawNet, ReadFault, Rows, raw_net, read_plan, rows_of,
 };
 use std::alloc::Global;
+use tree_order::{Forest, forest_of};
 
 /// What is to be done.
 #[derive(Drop)]
 pub enum Task {
-    /// The least plan of the network is to be found.
-    Solve(Checked),
+    /// The least plan of the network is to be found, over its forest.
+    Solve(Checked, Forest),
     /// The plan is to be tested against the rules.
     Audit(Checked, Plan),
 }
@@ -95,16 +96,13 @@ fn last_of(
     further: &[u8],
 ) -> Result<Task, Unsolved>
     requires read { IsRawNet raw.now }
-    requires made { checked ≡ checked_from raw.now }
+    requires made { IsNetworkOf raw.now checked }
     requires checked { IsChecked checked }
     requires short { length further.now ≤ FILE_LIMIT }
     ensures { LastCase command raw.now further.now result }
 {
     match command {
-        Command::Solve => match arcs_fault(raw.arcs.as_slice()) {
-            Some(fault) => Err(Unsolved::Stop(Stop::Refused(fault))),
-            None => Ok(Task::Solve(checked)),
-        },
+        Command::Solve => solve_task(alloc, raw, checked),
         Command::Audit => match plan_in(alloc, raw, further) {
             Ok(plan) => Ok(Task::Audit(checked, plan)),
             Err(fault) => Err(unsolved_by(fault)),
@@ -122,15 +120,29 @@ fn plan_in(alloc: Global, raw: &RawNet, further: &[u8]) -> Result<Plan, ReadFaul
     read_plan(alloc, &rows, &raw.stages)
 }
 
-// No arc is solved yet.
-fn arcs_fault(arcs: &[ArcRow]) -> Option<FileFault>
-    ensures { result ≡ arcs_fault arcs.now }
+// The least plan is to be found, or the first arc that the forest drops.
+fn solve_task(alloc: Global, raw: &RawNet, checked: Checked) -> Result<Task, Unsolved>
+    requires made { IsNetworkOf raw.now checked }
+    requires checked { IsChecked checked }
+    ensures { LastCase Command.Solve raw.now [] result }
 {
-    let first = arcs.first()?;
+    let forest = forest_of(alloc, &checked.network)?;
+    match loop_fault(raw, forest.dropped.as_slice()) {
+        Some(fault) => Err(Unsolved::Stop(Stop::Refused(fault))),
+        None => Ok(Task::Solve(checked, forest)),
+    }
+}
+
+// No arc that the forest drops is solved yet.
+fn loop_fault(raw: &RawNet, dropped: &[u32]) -> Option<FileFault>
+    requires { All (λ a. a < length raw.now.arcs) dropped.now }
+    ensures { result ≡ loop_fault raw.now dropped.now }
+{
+    let first = dropped.first()?;
     Some(FileFault {
         file: FileKind::Arcs,
-        row: first.row,
-        rule: ARCS_NOT_YET,
+        row: raw.arcs.get(*first as usize).row,
+        rule: LOOP_NOT_YET,
         column: 0,
     })
 }

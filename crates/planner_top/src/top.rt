@@ -1,5 +1,5 @@
 // The top call.
-ghost use Rattle.std.specs.Prelude.{◌≡◌, [], ◌∷◌, IfOk, OnOk, OnErr};
+ghost use Rattle.std.specs.Prelude.{◌≡◌, ◌≤◌, ◌^◌, [], ◌∷◌, IfOk, OnOk, OnErr};
 ghost use Rattle.gsm_outside.specs.Causes.{HasCause};
 ghost use Rattle.planner_top.specs.Texts.{lines_of, fault_row};
 ghost use Rattle.planner_top.specs.Runs.{run_of, Follows, PartFollows, StatusCase, status_of, FaultCase};
@@ -16,21 +16,37 @@ use gsm_outside::{OutFault, Shelf, Sink};
 use service_model::{List, NoMemory};
 use stage_file::{Row, Rows};
 use std::alloc::Global;
+use step_ledger::Steps;
 
-/// Does all that the program does: reads the files that the words name, solves, and prints the answer.
-pub fn run<S: Shelf, K: Sink>(alloc: Global, words: &Words, shelf: &mut S, out: &mut K) -> Status
-    ensures { Headline (run_of words.now (S.held shelf.old) (S.held shelf.new) (S.read_faults shelf.old) (S.read_faults shelf.new) (S.write_faults shelf.old) (S.write_faults shelf.new) (K.written out.old) (K.written out.new) (K.faults out.old) (K.faults out.new) result) }
+/// Does all that the program does: reads the files that the words name, does what they ask, and prints the answer. The
+/// steps count the tables that are filled.
+pub fn run<S: Shelf, K: Sink, L>(
+    alloc: Global,
+    words: &Words,
+    shelf: &mut S,
+    out: &mut K,
+    steps: &mut Steps<L>,
+) -> Status
+    requires { steps.old ≤ 2 ^ 62 }
+    ensures { Headline (run_of words.now (S.held shelf.old) (S.held shelf.new) (S.read_faults shelf.old) (S.read_faults shelf.new) (S.write_faults shelf.old) (S.write_faults shelf.new) (K.written out.old) (K.written out.new) (K.faults out.old) (K.faults out.new) steps.old steps.new result) }
 {
-    run_cases(alloc, words, shelf, out)
+    run_cases(alloc, words, shelf, out, steps)
 }
 
 // The same, by what the status says.
-fn run_cases<S: Shelf, K: Sink>(alloc: Global, words: &Words, shelf: &mut S, out: &mut K) -> Status
-    ensures case { StatusCase (run_of words.now (S.held shelf.old) (S.held shelf.new) (S.read_faults shelf.old) (S.read_faults shelf.new) (S.write_faults shelf.old) (S.write_faults shelf.new) (K.written out.old) (K.written out.new) (K.faults out.old) (K.faults out.new) result) result }
+fn run_cases<S: Shelf, K: Sink, L>(
+    alloc: Global,
+    words: &Words,
+    shelf: &mut S,
+    out: &mut K,
+    steps: &mut Steps<L>,
+) -> Status
+    requires { steps.old ≤ 2 ^ 62 }
+    ensures case { StatusCase (run_of words.now (S.held shelf.old) (S.held shelf.new) (S.read_faults shelf.old) (S.read_faults shelf.new) (S.write_faults shelf.old) (S.write_faults shelf.new) (K.written out.old) (K.written out.new) (K.faults out.old) (K.faults out.new) steps.old steps.new result) result }
     ensures held { S.held shelf.new ≡ S.held shelf.old }
     ensures writes { S.write_faults shelf.new ≡ S.write_faults shelf.old }
 {
-    match answer_of(alloc, words, shelf) {
+    match answer_of(alloc, words, shelf, steps) {
         Ok(answer) => match print(alloc, out, answer.rows.as_slice()) {
             Ok(()) => status_of(answer.ending),
             Err(OutFault::Failed) => Status::WriteFault,

@@ -9,5 +9,5 @@ returns-in-Err-Fault-clause-case g c =
     let shelf_after = c.answer_of.new.shelf in
     let out = c.args.out.now in
     let out_after = c.print_fault.new.out in
-    let run = run_of c.args.words.now (g.S.Shelf.held shelf) (g.S.Shelf.held shelf_after) (g.S.Shelf.read_faults shelf) (g.S.Shelf.read_faults shelf_after) (g.S.Shelf.write_faults shelf) (g.S.Shelf.write_faults shelf_after) (g.K.Sink.written out) (g.K.Sink.written out_after) (g.K.Sink.faults out) (g.K.Sink.faults out_after) c.print_fault.result in
-    fault_case run c.in-Err-Fault.file c.print_fault.result case.0 case.1 case.2 c.print_fault.ensures
+    let run = run_of c.args.words.now (g.S.Shelf.held shelf) (g.S.Shelf.held shelf_after) (g.S.Shelf.read_faults shelf) (g.S.Shelf.read_faults shelf_after) (g.S.Shelf.write_faults shelf) (g.S.Shelf.write_faults shelf_after) (g.K.Sink.written out) (g.K.Sink.written out_after) (g.K.Sink.faults out) (g.K.Sink.faults out_after) c.args.steps.now c.answer_of.new.steps c.print_fault.result in
+    fault_case run c.in-Err-Fault.file c.print_fault.result case.0 case.1 case.2 case.3 c.print_fault.ensures
