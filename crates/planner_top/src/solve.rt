@@ -46,12 +46,7 @@ pub fn solution_of<L>(
     }
 }
 
-fn plan_rows(
-    alloc: Global,
-    checked: &Checked,
-    plan: &Plan,
-    filled: u64,
-) -> Result<Rows, NoMemory>
+fn plan_rows(alloc: Global, checked: &Checked, plan: &Plan, filled: u64) -> Result<Rows, NoMemory>
     requires checked { IsChecked checked.now }
     requires feasible { Feasible checked.now.network plan.now }
     ensures { IfOk result (λ rows. rows ≡ plan_rows checked.now plan.now filled) }

@@ -1,7 +1,21 @@
 use super::*;
-use gsm_outside::{SureShelf, SureSink};
+use gsm_outside::{Shelf, Sink, SureShelf, SureSink};
 use std::alloc::Global;
 use std::test::Fail;
+use step_ledger::Steps;
+
+// Whose steps a test counts.
+struct Tested;
+
+pub fn run_once<S: Shelf, K: Sink>(
+    alloc: Global,
+    words: &Words,
+    shelf: &mut S,
+    out: &mut K,
+) -> Status {
+    let mut steps = Steps::<Tested>::new();
+    run(alloc, words, shelf, out, &mut steps)
+}
 
 pub fn words_of(alloc: Global, all: &[&str]) -> Result<Words, Fail> {
     let mut words = Words::new(alloc);
@@ -22,7 +36,7 @@ struct Case<'a> {
     text: &'a str,
 }
 
-const CASES: [Case<'static>; 8] = [
+const CASES: [Case<'static>; 9] = [
     Case {
         name: "plain",
         horizon: "horizon=10",
@@ -30,7 +44,7 @@ const CASES: [Case<'static>; 8] = [
         tables: "table,x\nt,0,10,14,17,20,22\n",
         arcs: "",
         status: Status::Done,
-        text: "optimal,17\nstage,inbound,outbound,time,stock,cost\nA,0,2,3,17,17\nranges,1\n",
+        text: "optimal,17\nstage,inbound,outbound,time,stock,cost\nA,0,2,3,17,17\nranges,1\nfilled,1\n",
     },
     Case {
         name: "empty",
@@ -48,7 +62,7 @@ const CASES: [Case<'static>; 8] = [
         tables: "table,x\nt,0,1,2,3\n",
         arcs: "",
         status: Status::Infeasible,
-        text: "infeasible\nranges,1\n",
+        text: "infeasible\nranges,1\nfilled,1\n",
     },
     Case {
         name: "a falling list",
@@ -57,7 +71,7 @@ const CASES: [Case<'static>; 8] = [
         tables: "table,x\nt,9,4,1\n",
         arcs: "",
         status: Status::Done,
-        text: "optimal,1\nstage,inbound,outbound,time,stock,cost\nA,2,0,2,1,1\nranges,1\n",
+        text: "optimal,1\nstage,inbound,outbound,time,stock,cost\nA,2,0,2,1,1\nranges,1\nfilled,1\n",
     },
     Case {
         name: "a cycle",
@@ -75,7 +89,7 @@ const CASES: [Case<'static>; 8] = [
         tables: "table,x\nflat,0,3,6,8\n",
         arcs: "",
         status: Status::Done,
-        text: "optimal,6\nstage,inbound,outbound,time,stock,cost\n\"Hub, north\",0,6,1,3,6\nranges,1\n",
+        text: "optimal,6\nstage,inbound,outbound,time,stock,cost\n\"Hub, north\",0,6,1,3,6\nranges,1\nfilled,1\n",
     },
     Case {
         name: "two stages",
@@ -83,8 +97,17 @@ const CASES: [Case<'static>; 8] = [
         stages: "stage,lead,supply,least,most,bound,unit\nA,3,,,,a,1\nB,2,,,0,b,1\n",
         tables: "table,x\na,0,2,3,4\nb,0,5,7,9,10,12\n",
         arcs: "supplier,customer,quantity\nA,B,1\n",
+        status: Status::Done,
+        text: "optimal,11\nstage,inbound,outbound,time,stock,cost\nA,0,0,3,4,4\nB,0,0,2,7,7\nranges,1\nfilled,2\n",
+    },
+    Case {
+        name: "the diamond",
+        horizon: "horizon=2",
+        stages: "stage,lead,supply,least,most,bound,unit\nA,2,,,,a,1\nB,0,,,,b,1\nC,0,,,,c,1\nD,0,,,0,d,1\n",
+        tables: "table,x\na,0,3,7\nb,0,6,6\nc,0,1,1\nd,0,8,8\n",
+        arcs: "supplier,customer,quantity\nA,B,1\nA,C,1\nB,D,1\nC,D,1\n",
         status: Status::Refused,
-        text: "refused,ArcsNotYet,arcs,2,0\n",
+        text: "refused,LoopNotYet,arcs,5,0\n",
     },
     Case {
         name: "a bound by demand",
@@ -93,7 +116,7 @@ const CASES: [Case<'static>; 8] = [
         tables: "table,x\nt,0,10,14,17,20,22\n",
         arcs: "",
         status: Status::Refused,
-        text: "refused,BoundNotYet,stages,2,6\n",
+        text: "refused,F22,stages,2,6\n",
     },
 ];
 
@@ -109,7 +132,7 @@ fn run_over(
     shelf.with_file("s", files[0].as_bytes())?;
     shelf.with_file("t", files[1].as_bytes())?;
     shelf.with_file("a", files[2].as_bytes())?;
-    Ok(run(alloc, &words, &mut shelf, out))
+    Ok(run_once(alloc, &words, &mut shelf, out))
 }
 
 #[test]
@@ -158,6 +181,8 @@ fn each_rule_on_files_is_printed_with_its_place(rt: HostRuntime) -> Result<(), F
         of_stages("A,5,,3,2,t,1\n", "refused,F10,stages,2,4\n"),
         of_stages("A,5,,,2,normal:x,1\n", "refused,F17,stages,2,6\n"),
         of_stages("A,5,,,2,u,1\n", "refused,F21,stages,2,6\n"),
+        of_stages("A,5,,,2,sum,1\n", "refused,F22,stages,2,6\n"),
+        of_stages("A,5,,,2,normal:1000000000,1\n", "refused,F23,stages,2,6\n"),
         of_stages("A,5,,,2,sum,1\nB,5,,,2,u,1\n", "refused,F21,stages,3,6\n"),
         Refusal {
             stages: "A,5,,,2,t,1\n",
@@ -219,7 +244,7 @@ fn each_rule_on_words_is_printed_with_its_place(rt: HostRuntime) -> Result<(), F
         let words = words_of(alloc, all)?;
         let mut shelf = SureShelf::new(alloc);
         let mut out = SureSink::new(alloc);
-        let status = run(alloc, &words, &mut shelf, &mut out);
+        let status = run_once(alloc, &words, &mut shelf, &mut out);
         let got = (status, out.written());
         assert_eq!(rt; got, (Status::Words, text.as_bytes()));
     }
@@ -238,7 +263,7 @@ fn keys_come_in_any_order_and_names_may_have_equals_signs(rt: HostRuntime) -> Re
     shelf.with_file("t", CASES[0].tables.as_bytes())?;
     shelf.with_file("a", b"")?;
     let mut out = SureSink::new(alloc);
-    let status = run(alloc, &words, &mut shelf, &mut out);
+    let status = run_once(alloc, &words, &mut shelf, &mut out);
     let got = (status, out.written());
     assert_eq!(rt; got, (Status::Done, CASES[0].text.as_bytes()));
     Ok(())
@@ -263,8 +288,7 @@ fn the_largest_sum_is_still_exact(rt: HostRuntime) -> Result<(), Fail> {
     assert_eq!(rt; status, Status::Done);
     assert!(rt; out.written().starts_with(b"optimal,1000000000000000000\n"));
     assert!(rt;
-        out.written()
-            .ends_with(b"s1000,0,0,0,1000000000,1000000000000000\nranges,1\n")
+        out.written().ends_with(b"s1000,0,0,0,1000000000,1000000000000000\nranges,1\nfilled,1000\n")
     );
     Ok(())
 }
@@ -279,7 +303,7 @@ fn a_file_past_its_limit_is_too_long(rt: HostRuntime) -> Result<(), Fail> {
     let mut shelf = SureShelf::new(alloc);
     shelf.with_file("s", vec![in alloc; b'x'; 16_777_217]?.as_slice())?;
     let mut out = SureSink::new(alloc);
-    let status = run(alloc, &words, &mut shelf, &mut out);
+    let status = run_once(alloc, &words, &mut shelf, &mut out);
     assert_eq!(rt;
         (status, out.written()),
         (Status::TooLong, b"too long,stages\n".as_slice())

@@ -1,5 +1,5 @@
 use super::*;
-use crate::tests::words_of;
+use crate::tests::{run_once, words_of};
 use gsm_outside::{SureShelf, SureSink};
 use std::alloc::Global;
 use std::test::Fail;
@@ -29,7 +29,7 @@ fn audit_over(alloc: Global, plan: &str, out: &mut SureSink) -> Result<Status, F
     shelf.with_file("t", TABLES.as_bytes())?;
     shelf.with_file("a", ARCS.as_bytes())?;
     shelf.with_file("p", plan.as_bytes())?;
-    Ok(run(alloc, &words, &mut shelf, out))
+    Ok(run_once(alloc, &words, &mut shelf, out))
 }
 
 #[test]

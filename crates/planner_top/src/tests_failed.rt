@@ -2,7 +2,7 @@ ghost use Rattle.std.specs.Prelude.{◌≡◌, Some};
 ghost use Rattle.gsm_outside.specs.Memory.{mem_files, mem_read_faults, mem_write_faults};
 
 use super::*;
-use crate::tests::words_of;
+use crate::tests::{run_once, words_of};
 use gsm_outside::{MemShelf, MemSink, OutFault, Shelf};
 use std::alloc::Global;
 use std::test::Fail;
@@ -60,7 +60,7 @@ fn no_fetch_follows_one_that_failed(rt: HostRuntime) -> Result<(), Fail> {
             fetches: 0,
         };
         let mut out = MemSink::new(alloc, Vec::new(alloc));
-        let status = run(alloc, &words, &mut shelf, &mut out);
+        let status = run_once(alloc, &words, &mut shelf, &mut out);
         assert_eq!(rt; (status, shelf.fetches), (Status::ReadFault, call));
     }
     Ok(())
@@ -84,7 +84,7 @@ fn each_read_that_fails_is_told_by_its_file(rt: HostRuntime) -> Result<(), Fail>
     for (call, text) in cases {
         let mut shelf = plain_shelf(alloc, vec![in alloc; call]?)?;
         let mut out = MemSink::new(alloc, Vec::new(alloc));
-        let status = run(alloc, &words, &mut shelf, &mut out);
+        let status = run_once(alloc, &words, &mut shelf, &mut out);
         assert_eq!(rt; status, Status::ReadFault, "call {call}");
         assert_eq!(rt; out.written(), text.as_bytes(), "call {call}");
     }
@@ -100,7 +100,7 @@ fn a_missing_file_is_a_read_fault(rt: HostRuntime) -> Result<(), Fail> {
     )?;
     let mut shelf = plain_shelf(alloc, Vec::new(alloc))?;
     let mut out = MemSink::new(alloc, Vec::new(alloc));
-    let status = run(alloc, &words, &mut shelf, &mut out);
+    let status = run_once(alloc, &words, &mut shelf, &mut out);
     assert_eq!(rt; status, Status::ReadFault);
     assert_eq!(rt; out.written(), b"read fault,tables\n".as_slice());
     assert!(rt; shelf.bytes_of("u").is_none());
@@ -117,7 +117,7 @@ fn a_put_that_fails_is_a_write_fault(rt: HostRuntime) -> Result<(), Fail> {
     for failing in [0, 2] {
         let mut shelf = plain_shelf(alloc, vec![in alloc; failing]?)?;
         let mut out = MemSink::new(alloc, vec![in alloc; 1]?);
-        let status = run(alloc, &words, &mut shelf, &mut out);
+        let status = run_once(alloc, &words, &mut shelf, &mut out);
         assert_eq!(rt; status, Status::WriteFault, "shelf call {failing}");
         assert_eq!(rt; out.written(), b"".as_slice(), "shelf call {failing}");
     }

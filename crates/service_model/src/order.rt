@@ -23,11 +23,7 @@ pub fn front(alloc: Global, links: &Links) -> Result<List<u32>, NoMemory>
 }
 
 /// The same of arcs between so many stages. All stages are taken where there is no cycle.
-pub fn lowest_first(
-    alloc: Global,
-    stages: usize,
-    arcs: &[SupplyArc],
-) -> Result<List<u32>, NoMemory>
+pub fn lowest_first(alloc: Global, stages: usize, arcs: &[SupplyArc]) -> Result<List<u32>, NoMemory>
     requires few { stages < 2 ^ 32 }
     requires ends { HasEnds stages arcs.now }
     ensures { IfOk result (IsFront stages arcs.now) }
