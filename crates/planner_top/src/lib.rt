@@ -25,6 +25,8 @@ mod tests;
 mod tests_audit;
 #[cfg(test)]
 mod tests_failed;
+#[cfg(test)]
+mod tests_trees;
 mod text;
 mod top;
 mod word_fault;

@@ -121,7 +121,7 @@ const CASES: [Case<'static>; 9] = [
 ];
 
 // Runs the five words over three files, into the sink.
-fn run_over(
+pub fn run_over(
     alloc: Global,
     horizon: &str,
     files: [&str; 3],
