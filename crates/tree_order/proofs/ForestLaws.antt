@@ -3,8 +3,9 @@ use Rattle.std.proofs.Common.{ℕ, ◌≡◌, ◌≢◌, ◌+◌, ◌-◌, ◌<�
 use Rattle.std.specs.Prelude.{All, AllPairs, Contains, ◌⊎◌}
 use Rattle.std.specs.List.{position_or_len}
 use Rattle.std.proofs.lemmas.Bool.{cases_eq, cases_lt, eq-eqb, ne_eqb}
-use Rattle.std.proofs.lemmas.List.{get_or_default, get_or-reverse, length-reverse, reverse-reverse}
+use Rattle.std.proofs.lemmas.List.{get_or_default, get_or-take, length-take, get_or-reverse, length-reverse, reverse-reverse}
 use Rattle.std.proofs.lemmas.List.Sums.{position_or_len_is}
+use Rattle.std.proofs.lemmas.Map.Steps.{le-length_from_below}
 use Rattle.service_model.specs.declared.stage.SupplyArc.{SupplyArc}
 use Rattle.service_model.specs.Net.{Net, arc_in, no_arc}
 use Rattle.service_model.specs.Walks.{Leads}
@@ -13,8 +14,18 @@ use Rattle.service_model.specs.Forests.{Joins, AreNeighbours, IsTie, HasEachOnce
 use Rattle.tree_order.specs.declared.forest.Forest.{Forest}
 use Rattle.tree_order.specs.Forest.{IsForest, ChildrenFirst, HasOneSide}
 use Rattle.tree_order.proofs.ArcFacts.{joins_stages, one_arc, one_way}
+use Rattle.tree_order.proofs.SeenFacts.{few_new, among_from}
 use Rattle.tree_order.proofs.PlaceFacts.{place_of}
 use Rattle.tree_order.proofs.WalkFacts.{parent_low}
+
+-- a list of each number once is as long as there are numbers
+pub each_long : (n : ℕ) (xs : List ℕ) → HasEachOnce n xs → length xs ≡ n
+each_long n xs each =
+    let most = few_new xs n (λ k inside. each.low k 0 inside) (λ k inside h.
+    let less : h.0 < k = omega (arith, h.1, length-take k xs) in
+    each.once h.0 k 0 less inside (get_or_default xs h.0 0 (get_or xs k 0) (omega (arith, less, inside)) ∙ sym (get_or-take k xs h.0 (get_or xs k 0) less) ∙ h.2)) in
+    let least = le-length_from_below xs n (λ q low. among_from xs q (each.each q low)) in
+    omega arith
 
 -- the order has each stage once
 
@@ -127,6 +138,13 @@ walk_ranked stages arcs seen parent walk = record {
 
 pub forest_ranked : (stages : ℕ) (arcs : List SupplyArc) (f : Forest) → IsForest stages arcs f → IsRanked stages f.parent (rank_in (reverse f.order))
 forest_ranked stages arcs f forest = walk_ranked stages arcs (reverse f.order) f.parent forest.walk
+
+-- a rank is below the number of stages
+pub rank_low : (stages : ℕ) (arcs : List SupplyArc) (f : Forest) → IsForest stages arcs f → (j : ℕ) → j < stages → rank_in (reverse f.order) j < stages
+rank_low stages arcs f forest j low =
+    let at = place_of (reverse f.order) j (forest.walk.order.each_once.each j low) in
+    let long = each_long stages (reverse f.order) forest.walk.order.each_once in
+    omega (arith, ap (rank_in (reverse f.order)) (sym at.1.is) ∙ rank_at stages (reverse f.order) forest.walk.order.each_once at.0 at.1.inside, at.1.inside, long)
 
 -- arcs
 

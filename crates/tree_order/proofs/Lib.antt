@@ -8,4 +8,8 @@ mod NextFacts
 mod GroupFacts
 mod OrderFacts
 mod WalkFacts
+mod StepsBack
+mod BelowFacts
 pub mod ForestLaws
+pub mod OneForest
+pub mod BelowLaws
