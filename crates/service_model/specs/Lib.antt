@@ -13,3 +13,4 @@ pub mod Ranges
 pub mod Tables
 pub mod Nodes
 pub mod Forests
+pub mod Relaxed
