@@ -1,6 +1,6 @@
 -- Tables of different stages, and plans that agree at the stages of tables.
-use Rattle.std.proofs.Common.{◌≡◌, ◌≢◌, ℕ, zero, suc, ◌+◌, ◌<◌, ◌≤◌, List, [], ◌∷◌, ◌++◌, length, get_or, map, refl, sym, ap, ◌∙◌, arith}
-use Rattle.std.specs.Prelude.{All, AllPairs, sum_by}
+use Rattle.std.proofs.Common.{◌≡◌, ◌≢◌, ℕ, zero, suc, ◌<◌, ◌≤◌, List, [], ◌∷◌, ◌++◌, length, get_or, map, refl, sym, ap, ◌∙◌, arith}
+use Rattle.std.specs.Prelude.{All}
 use Rattle.std.specs.List.{flat_map, AllByRecursion}
 use Rattle.std.proofs.lemmas.List.Sums.{sum_by-cons}
 use Rattle.service_model.specs.declared.plan.Plan.{Plan}
@@ -30,6 +30,18 @@ apart_from_once tables (k ∷ ks) pairs = (
   absent_from_all tables (table_at tables k).stage ks (λ a d within same. pairs 0 (suc a) d (omega arith) (omega arith) (sym same)),
   apart_from_once tables ks (λ a b d less within. pairs (suc a) (suc b) d (omega arith) (omega arith)),
 )
+
+absent_each : (tables : List Table) (j : ℕ) (ks : List ℕ) → IsAbsent tables j ks
+    → (a d : ℕ) → a < length (map (λ k. (table_at tables k).stage) ks) → get_or (map (λ k. (table_at tables k).stage) ks) a d ≢ j
+absent_each tables j [] absent a d within = absurd (omega arith)
+absent_each tables j (k ∷ ks) absent zero d within = absent.0
+absent_each tables j (k ∷ ks) absent (suc a) d within = absent_each tables j ks absent.1 a d (omega arith)
+
+pub once_from_apart : (tables : List Table) (ks : List ℕ) → Apart tables ks → IsOnce tables ks
+once_from_apart tables [] apart a b d less within = absurd (omega arith)
+once_from_apart tables (k ∷ ks) apart a zero d less within = absurd (omega arith)
+once_from_apart tables (k ∷ ks) apart zero (suc b) d less within = λ same. absent_each tables (table_at tables k).stage ks apart.0 b d (omega arith) (sym same)
+once_from_apart tables (k ∷ ks) apart (suc a) (suc b) d less within = once_from_apart tables ks apart.1 a b d (omega arith) (omega arith)
 
 pub apart_append : (tables : List Table) (xs ys : List ℕ) → Apart tables (xs ++ ys)
     → Apart tables xs × Apart tables ys × AllByRecursion (λ k. IsAbsent tables (table_at tables k).stage ys) xs

@@ -1,13 +1,13 @@
 -- What stands at or below a table, however deep one looks.
-use Rattle.std.proofs.Common.{◌≡◌, ℕ, zero, suc, ◌<◌, ◌≤◌, List, [], ◌∷◌, ap, subst, arith}
+use Rattle.std.proofs.Common.{◌≡◌, ℕ, zero, suc, ◌<◌, List, [], ◌∷◌, length, ap, subst, arith}
 use Rattle.std.specs.List.{flat_map, AllByRecursion}
 use Rattle.std.proofs.lemmas.List.Elements.{recursion_from_All}
 use Rattle.service_model.specs.declared.table.Table.{Table}
 use Rattle.service_model.specs.Net.{Net}
-use Rattle.service_model.specs.Tables.{table_at}
+use Rattle.service_model.specs.Tables.{table_at, Sound, AllTight}
 use Rattle.service_model.specs.Nodes.{below, below_within, IsSoundAt, IsTightAt, AreSoundBelow, AreTightBelow}
 use Rattle.gsm_laws.specs.Laws.{BelowLaw}
-use Rattle.gsm_laws.proofs.ElementFacts.{each, all_append, all_parts, flat_map_same}
+use Rattle.gsm_laws.proofs.ElementFacts.{each, all_append, all_concat, all_parts, flat_map_same}
 
 -- the children of table k are earlier tables
 abbrev pub HasEarlier : List Table → ℕ → Type 0
@@ -69,3 +69,33 @@ each_child P tables i earlier all =
 pub below_law : BelowLaw
 below_law n tables i sound =
     below_at tables i (each (IsSoundAt n tables) (HasEarlier tables) (earlier_from_sound n tables) (below tables i) sound)
+
+-- what holds of each table of the list holds at and below each
+pub all_below : (P : ℕ → Type 0) (tables : List Table) → ((k : ℕ) → k < length tables → HasEarlier tables k × P k)
+    → (steps i : ℕ) → i < length tables → AllByRecursion P (below_within steps tables i)
+all_below P tables known zero i within = tt
+all_below P tables known (suc steps) i within = (
+  (known i within).1,
+  all_concat P (below_within steps tables) (table_at tables i).children
+      (each (λ c. c < i) (λ c. AllByRecursion P (below_within steps tables c)) (λ c earlier. all_below P tables known steps c (omega arith))
+      (table_at tables i).children (known i within).0),
+)
+
+-- tables that are sound together are sound at and below each
+pub sound_everywhere : (n : Net) (tables : List Table) (i : ℕ) → Sound n tables → i < length tables → AreSoundBelow n tables i
+sound_everywhere n tables i sound within =
+    all_below (IsSoundAt n tables) tables
+    (λ k there. (
+      recursion_from_All (λ c. c < k) (table_at tables k).children (sound.shaped k there).earlier,
+      record { there = there; shaped = sound.shaped k there; lower = sound.lower k there },
+    ))
+    (suc i) i within
+
+pub tight_everywhere : (n : Net) (tables : List Table) (i : ℕ) → AllTight n tables → i < length tables → AreTightBelow n tables i
+tight_everywhere n tables i known within =
+    all_below (IsTightAt n tables) tables
+    (λ k there. (
+      recursion_from_All (λ c. c < k) (table_at tables k).children (known.shaped k there).earlier,
+      record { there = there; shaped = known.shaped k there; tight = known.tight k there },
+    ))
+    (suc i) i within

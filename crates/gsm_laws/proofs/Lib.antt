@@ -6,3 +6,4 @@ pub mod AgreeFacts
 pub mod TraceFacts
 pub mod WholeFacts
 pub mod NodeFacts
+pub mod PartFacts

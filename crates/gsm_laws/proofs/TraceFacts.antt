@@ -1,5 +1,5 @@
 -- A value of a tight table is what some plan costs at and below the table.
-use Rattle.std.proofs.Common.{◌≡◌, ◌≢◌, ℕ, zero, suc, ◌+◌, ◌-◌, ◌<◌, ◌≤◌, List, [], ◌∷◌, ◌++◌, length, get_or, take, drop, refl, sym, ap, ◌∙◌, ⊎_elim, arith}
+use Rattle.std.proofs.Common.{◌≡◌, ◌≢◌, ℕ, zero, suc, ◌+◌, ◌-◌, ◌<◌, ◌≤◌, List, [], ◌∷◌, length, get_or, take, drop, refl, sym, ap, ◌∙◌, ⊎_elim, arith}
 use Rattle.std.specs.Prelude.{sum_by, slice_set}
 use Rattle.std.specs.List.{flat_map, AllByRecursion}
 use Rattle.std.proofs.lemmas.Bool.{cases_lt}
@@ -12,14 +12,14 @@ use Rattle.service_model.specs.declared.table.Kind.TheVariants.{Down, Up, Root}
 use Rattle.service_model.specs.declared.table.Table.{Table}
 use Rattle.service_model.specs.Net.{Net, stage_at}
 use Rattle.service_model.specs.Plans.{HasTimes, inbound_at, outbound_at, stage_cost, charge}
-use Rattle.service_model.specs.Tables.{Covers, table_at, transit_in, place, place_of, child_transit, child_least, least_below, local_sum, least_of, ComesFrom}
+use Rattle.service_model.specs.Tables.{table_at, transit_in, place, place_of, child_transit, child_least, least_below, least_of, ComesFrom}
 use Rattle.service_model.specs.Nodes.{below, below_within, Holds, IsTightAt}
 use Rattle.gsm_laws.specs.Traces.{IsAbsent, SameAt, SameOutside, MeetsChild, TracedWithin, cost_at}
 use Rattle.gsm_laws.specs.Laws.{TraceLaw}
 use Rattle.gsm_laws.proofs.ElementFacts.{all_append, each}
 use Rattle.gsm_laws.proofs.BelowFacts.{itself, earlier_from_sound, sound_from_tight}
 use Rattle.gsm_laws.proofs.TracedFacts.{first_holds}
-use Rattle.gsm_laws.proofs.AgreeFacts.{Apart, apart_append, apart_from_once, AgreeAt, same_sum, same_meets, same_traced}
+use Rattle.gsm_laws.proofs.AgreeFacts.{Apart, apart_append, apart_from_once, same_sum, same_meets, same_traced}
 
 -- a least that is below INF is a member
 pub least_reached : (xs : List ℕ) → least_of xs < INF → (k : ℕ) × (k < length xs) × (get_or xs k 0 ≡ least_of xs)

@@ -1,5 +1,5 @@
 -- Plans that are within tables and meet the arcs between them.
-use Rattle.std.specs.Prelude.{◌≡◌, ◌≢◌, ℕ, zero, suc, ◌+◌, ◌<◌, ◌≤◌, List, [], ◌∷◌, length, slice_index, map, sum_by, All, Contains}
+use Rattle.std.specs.Prelude.{◌≡◌, ◌≢◌, ℕ, zero, suc, ◌+◌, ◌<◌, ◌≤◌, List, length, slice_index, map, sum_by, All, Contains}
 use Rattle.std.specs.List.{AllByRecursion}
 use Rattle.service_model.specs.declared.limits.TheConstants.{INF}
 use Rattle.service_model.specs.declared.stage.SupplyArc.{SupplyArc}
@@ -30,6 +30,11 @@ TracedWithin (suc steps) n tables p i =
 -- the plan is within the table and those below it, and meets the arcs between them
 abbrev pub IsTraced : Net → List Table → Plan → ℕ → Type 0
 IsTraced n tables p i = TracedWithin (suc i) n tables p i
+
+-- the plan meets the arcs to these children of a table of stage j, and is traced from each of them on
+abbrev pub AreTraced : Net → List Table → Plan → ℕ → List ℕ → Type 0
+AreTraced n tables p j cs =
+    AllByRecursion (λ c. MeetsChild (table_at tables c).kind n.arcs p (table_at tables c).stage j × IsTraced n tables p c) cs
 
 -- the plan is within the tables at or below the roots, and meets the arcs between them
 abbrev pub IsTracedNode : Net → List Table → Plan → List ℕ → Type 0
