@@ -1,0 +1,4 @@
+mod ListFacts
+mod TableFacts
+mod WholeFacts
+mod TraceFacts
