@@ -2,3 +2,5 @@ mod ListFacts
 mod TableFacts
 mod WholeFacts
 mod TraceFacts
+mod BoundFacts
+pub mod RangeLaws
