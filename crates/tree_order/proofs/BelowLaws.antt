@@ -188,22 +188,26 @@ root_in_list stages arcs f forest r h =
 pub list_has_root : (stages : ℕ) (arcs : List SupplyArc) (f : Forest) → IsForest stages arcs f → (r : ℕ) → r < stages → get_or f.parent r 0 ≡ r → Contains (roots_of f) r
 list_has_root stages arcs f forest r low root = filter_has (λ j. get_or f.parent j 0 == j) f.order r ((order_each stages arcs f forest).each r low) (eq-eqb (get_or f.parent r 0) r root)
 
--- the stages at or below the roots are all stages, each once
-pub all_below : (stages : ℕ) (arcs : List SupplyArc) (f : Forest) → IsForest stages arcs f → HasEachOnce stages (flat_map (below_within stages f.children) (roots_of f))
-all_below stages arcs f forest = record {
+-- the stages at or below the roots are all stages, each once, however many steps deep one looks from the number of stages on
+pub each_below : (stages : ℕ) (arcs : List SupplyArc) (f : Forest) → IsForest stages arcs f → (steps : ℕ) → stages ≤ steps → HasEachOnce stages (flat_map (below_within steps f.children) (roots_of f))
+each_below stages arcs f forest steps enough = record {
   low = λ k d inside.
-      let all = flat_map (below_within stages f.children) (roots_of f) in
-      let r = in_flat (below_within stages f.children) (roots_of f) (get_or all k d) (Contains-get_or all k d inside) in
-      (below_up stages f.parent f.children forest.children stages r.0 (get_or all k d) (root_in_list stages arcs f forest r.0 r.1).0 r.2).0;
-  once = pairs_from_once (flat_map (below_within stages f.children) (roots_of f))
-      (flat_once (below_within stages f.children) (roots_of f)
+      let all = flat_map (below_within steps f.children) (roots_of f) in
+      let r = in_flat (below_within steps f.children) (roots_of f) (get_or all k d) (Contains-get_or all k d inside) in
+      (below_up stages f.parent f.children forest.children steps r.0 (get_or all k d) (root_in_list stages arcs f forest r.0 r.1).0 r.2).0;
+  once = pairs_from_once (flat_map (below_within steps f.children) (roots_of f))
+      (flat_once (below_within steps f.children) (roots_of f)
       (once_from_pairs (roots_of f) (AllPairs-filter (λ i j. i ≢ j) (λ j. get_or f.parent j 0 == j) f.order (order_each stages arcs f forest).once))
-      (λ r h. once_from_pairs (below_within stages f.children r) (below_once stages arcs f forest stages r (root_in_list stages arcs f forest r h).0))
+      (λ r h. once_from_pairs (below_within steps f.children r) (below_once stages arcs f forest steps r (root_in_list stages arcs f forest r h).0))
       (λ r s q h h' other left right.
       let root = root_in_list stages arcs f forest r h in
       let root' = root_in_list stages arcs f forest s h' in
-      other (one_root stages arcs f forest stages stages r s q root.0 root'.0 root.1 root'.1 left right)));
+      other (one_root stages arcs f forest steps steps r s q root.0 root'.0 root.1 root'.1 left right)));
   each = λ j low.
       let r = below_root stages arcs f forest j low in
-      flat_has (below_within stages f.children) (roots_of f) r.0 j (list_has_root stages arcs f forest r.0 r.1 r.2) r.3;
+      flat_has (below_within steps f.children) (roots_of f) r.0 j (list_has_root stages arcs f forest r.0 r.1 r.2)
+      (more_steps f.children stages steps r.0 j enough r.3);
 }
+
+pub all_below : (stages : ℕ) (arcs : List SupplyArc) (f : Forest) → IsForest stages arcs f → HasEachOnce stages (flat_map (below_within stages f.children) (roots_of f))
+all_below stages arcs f forest = each_below stages arcs f forest stages (omega arith)

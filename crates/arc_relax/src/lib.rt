@@ -1,0 +1,2 @@
+//! A range over a forest of the stages: the least cost of its plans, with the arcs left out that the forest drops.
+#![tactic(auto)]

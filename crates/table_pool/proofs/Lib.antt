@@ -1,0 +1,2 @@
+mod PoolFacts
+pub mod GrownFacts

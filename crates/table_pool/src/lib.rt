@@ -1,0 +1,6 @@
+//! Tables that are shared: each is filled once, and found again where it is wanted again.
+#![tactic(auto)]
+
+mod pool;
+
+pub use pool::Pool;

@@ -1,0 +1,10 @@
+//! Tables of least costs over a network: one filled over those below it, and the plan that a root's value stands for.
+#![tactic(auto)]
+
+mod filled;
+mod fills;
+mod wanted;
+
+pub use filled::Filled;
+pub use fills::fill;
+pub use wanted::{ChildList, Wanted};
