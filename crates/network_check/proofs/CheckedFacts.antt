@@ -1,5 +1,5 @@
 -- The network of records has one entry for each stage, and each cost is the unit cost times the excess demand.
-use Rattle.std.proofs.Common.{◌≡◌, ℕ, ◌*◌, ◌<◌, List, [], length, get_or, map, sym, subst, ◌∙◌, ap, arith}
+use Rattle.std.proofs.Common.{◌≡◌, ℕ, ◌*◌, ◌<◌, List, length, map, sym, subst, ◌∙◌, ap, arith}
 use Rattle.std.proofs.lemmas.List.{length-map, get_or-map}
 use Rattle.service_model.specs.declared.stage.Stage.{Stage}
 use Rattle.service_model.specs.Net.{stage_at, no_stage}

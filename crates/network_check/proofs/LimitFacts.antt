@@ -4,9 +4,7 @@ use Rattle.std.specs.List.{All}
 use Rattle.std.proofs.lemmas.List.{length-map, get_or-map}
 use Rattle.std.proofs.lemmas.Bool.Decides.{nat_tests}
 use Rattle.std.proofs.Math.Nat.{mul-le-mul_left, mul-le-mul_right}
-use Rattle.service_model.specs.declared.faults.NetworkFault.{NetworkFault}
 use Rattle.service_model.specs.declared.limits.TheConstants.{MAX_HORIZON}
-use Rattle.service_model.specs.declared.stage.Stage.{Stage}
 use Rattle.service_model.specs.declared.stage.SupplyArc.{SupplyArc}
 use Rattle.service_model.specs.Net.{stage_at, no_stage, arc_in, no_arc}
 use Rattle.service_model.specs.Search.{sum_below}
@@ -115,13 +113,13 @@ net_stage : (raw : RawNet) (lists : List (List ℕ)) (j : ℕ) → IsWithin raw 
 net_stage raw lists j is low =
     let long = is.long in
     rw (get_or-stages_from raw.stages lists j no_stage is.long low)
-      (stage_within raw.horizon (row_at raw j) (excess_at lists j) (is.read.stages.within j no_row low) (is.within j [] (omega (arith, long, low))))
+    (stage_within raw.horizon (row_at raw j) (excess_at lists j) (is.read.stages.within j no_row low) (is.within j [] (omega (arith, long, low))))
 
 net_top : (raw : RawNet) (lists : List (List ℕ)) (j : ℕ) → IsWithin raw lists → j < length raw.stages → top_of (stage_at (network_from raw lists) j).cost ≤ MOST_COST
 net_top raw lists j is low =
     let long = is.long in
     rw (get_or-stages_from raw.stages lists j no_stage is.long low)
-      (top_within raw.horizon (row_at raw j) (excess_at lists j) (is.read.stages.within j no_row low) (is.within j [] (omega (arith, long, low))))
+    (top_within raw.horizon (row_at raw j) (excess_at lists j) (is.read.stages.within j no_row low) (is.within j [] (omega (arith, long, low))))
 
 -- all rules on networks hold
 pub is_network : (raw : RawNet) (lists : List (List ℕ)) → IsWithin raw lists → IsNetwork (network_from raw lists)

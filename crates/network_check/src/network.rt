@@ -2,9 +2,9 @@
 ghost use Rattle.std.specs.Prelude.{◌≡◌, ◌<◌, ◌≤◌, All, IfOk, length};
 ghost use Rattle.service_model.specs.declared.limits.TheConstants.{MAX_HORIZON};
 ghost use Rattle.service_model.specs.Orders.{IsTopological};
-ghost use Rattle.service_model.specs.Walks.{NoCycle, IsFirstOnCycle};
+ghost use Rattle.service_model.specs.Walks.{NoCycle};
 ghost use Rattle.stage_file.specs.Raw.{AreFiles, IsRawNet};
-ghost use Rattle.demand_tables.specs.Demand.{ExcessWithin, HasExcess};
+ghost use Rattle.demand_tables.specs.Demand.{ExcessWithin};
 ghost use Rattle.network_check.specs.Checked.{supply_arcs, network_from};
 ghost use Rattle.network_check.specs.Refusals.{cycle_fault, RecordsCase, FilesCase};
 

@@ -2,10 +2,10 @@ ghost use Rattle.std.specs.Prelude.{IfOk};
 ghost use Rattle.stage_file.specs.Records.{AreCountable};
 ghost use Rattle.stage_file.specs.Raw.{AreFiles};
 
-// The worked case of a cycle, a network made by hand, and the smallest files that show the order of the rules.
+// The worked case of a cycle, networks made by hand, and the smallest files that show the order of the rules.
 use crate::*;
-use service_model::{NoMemory, SupplyArc};
-use stage_file::rules::{CYCLE, NO_TABLE, SELF_ARC};
+use service_model::{List, NoMemory, SupplyArc};
+use stage_file::rules::{CYCLE, NO_CUSTOMERS, NO_TABLE, SELF_ARC, TOO_LARGE};
 use stage_file::{FileFault, FileKind, Files, ReadFault, Rows, raw_net, rows_of};
 use std::alloc::Global;
 use std::test::Fail;
@@ -64,18 +64,44 @@ fn two_stages_and_an_arc_make_a_network(rt: HostRuntime) -> Result<(), Fail> {
     Ok(())
 }
 
+fn is(lists: &List<List<u64>>, stage: usize, excess: &[u64]) -> bool {
+    stage < lists.len() && lists.get(stage).as_slice() == excess
+}
+
 #[test]
-fn records_make_a_network(rt: HostRuntime) -> Result<(), Fail> {
-    let files = files(rt.alloc(), STAGES, TABLES, b"")?;
-    let checked = check_records(rt.alloc(), &raw_net(rt.alloc(), &files, 4)?)?;
-    assert_eq!(rt; checked.network.stages().len(), 2);
+fn bounds_of_each_kind_make_a_network(rt: HostRuntime) -> Result<(), Fail> {
+    let stages =
+        b"stage\nS,1,,,,sum,2\nP,1,,,,pool,3\nM,1,,,,normal:5,1\nN,1,,,,normal:12,1\nA,1,,,,a,1\n";
+    let arcs = b"supplier\nS,M,2\nS,N\nP,M\nP,N\n";
+    let files = files(rt.alloc(), stages, TABLES, arcs)?;
+    let checked = check_records(rt.alloc(), &raw_net(rt.alloc(), &files, 3)?)?;
+    assert!(rt;
+        is(&checked.excess, 2, &[0, 5, 8, 9]),
+        "roots of 0, 25, 50, 75"
+    );
+    assert!(rt;
+        is(&checked.excess, 3, &[0, 12, 17, 21]),
+        "roots of 0, 144, 288, 432"
+    );
+    assert!(rt;
+        is(&checked.excess, 0, &[0, 22, 33, 39]),
+        "2 * 5 + 12, 2 * 8 + 17, 2 * 9 + 21"
+    );
+    assert!(rt;
+        is(&checked.excess, 1, &[0, 13, 19, 23]),
+        "roots of 0, 169, 353, 522"
+    );
+    let stages = checked.network.stages();
+    assert_eq!(rt; stages.len(), 5);
+    assert_eq!(rt; stages.get(0).cost.as_slice(), [0, 44, 66, 78].as_slice());
+    assert_eq!(rt; stages.get(1).cost.as_slice(), [0, 39, 57, 69].as_slice());
     Ok(())
 }
 
 // Stages, arcs, and the rule, the file, the record and the column of their refusal.
 type Case = (&'static [u8], &'static [u8], u8, FileKind, u32, u32);
 
-const CASES: [Case; 7] = [
+const CASES: [Case; 6] = [
     // The worked case: D is reached by the cycle, and does not reach itself.
     (
         b"stage\nD,1,,,,a,1\nA,1,,,,a,1\nB,1,,,,a,1\nC,1,,,,a,1\n",
@@ -94,14 +120,6 @@ const CASES: [Case; 7] = [
         3,
         1,
     ),
-    (
-        b"stage\nA,1,,,,sum,1\nB,1,,,,a,1\n",
-        b"supplier\nA,B\nB,A\n",
-        CYCLE,
-        FileKind::Stages,
-        2,
-        1,
-    ),
     // and an earlier file before a cycle.
     (
         b"stage\nA,1,,,,a,1\nB,1,,,,a,1\n",
@@ -111,14 +129,7 @@ const CASES: [Case; 7] = [
         4,
         2,
     ),
-    (
-        b"stage\nA,1,,,,a,1\nB,1,,,,u,1\n",
-        b"supplier\nA,B\n",
-        NO_TABLE,
-        FileKind::Stages,
-        3,
-        6,
-    ),
+    // Then the bounds: each names a table, each has customers where it asks for them, and no excess demand is too large.
     (
         b"stage\nA,1,,,,sum,1\nB,1,,,,u,1\n",
         b"",
@@ -128,9 +139,17 @@ const CASES: [Case; 7] = [
         6,
     ),
     (
-        b"stage\nA,1,,,,normal:5,1\nB,1,,,,pool,1\n",
+        b"stage\nA,1,,,,sum,1\n",
         b"",
-        BOUND_NOT_YET,
+        NO_CUSTOMERS,
+        FileKind::Stages,
+        2,
+        6,
+    ),
+    (
+        b"stage\nA,1,,,,normal:1000000000,1\n",
+        b"",
+        TOO_LARGE,
         FileKind::Stages,
         2,
         6,

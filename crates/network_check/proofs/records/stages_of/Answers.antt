@@ -8,8 +8,8 @@ stages-preserved c =
     let s = c.get.result.now in
     let within : c.stages.k < length raw.stages = search rules in
     rw (c.in_ok-push.ensures.ok, c.in_ok-stage_of.ensures)
-      (stages_more raw.stages c.args.excess.now c.stages.k s c.as_slice.result.now c.stages.stages c.requires.long within (c.get.ensures.whatever_else s)
-      (c.get-in-stages.ensures.whatever_else c.as_slice.result.now ∙ sym c.as_slice.ensures) c.stages.invariant)
+    (stages_more raw.stages c.args.excess.now c.stages.k s c.as_slice.result.now c.stages.stages c.requires.long within (c.get.ensures.whatever_else s)
+    (c.get-in-stages.ensures.whatever_else c.as_slice.result.now ∙ sym c.as_slice.ensures) c.stages.invariant)
 
 pub returns : goal.returns
 returns c =
