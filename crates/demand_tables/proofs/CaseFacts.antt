@@ -1,5 +1,5 @@
 -- The excess demands in the demand order, up to the first that is too large.
-use Rattle.std.proofs.Common.{ℕ, ◌≡◌, ◌+◌, ◌-◌, ◌<◌, ◌≤◌, Bool, true, false, nat_eq, nat_lt, Option, Some, None, Result, Ok, Err, List, [], ◌∷◌, length, get_or, set, take, map, replicate, refl, sym, ap, ◌∙◌, subst, inl, inr, ⊎_elim, arith}
+use Rattle.std.proofs.Common.{ℕ, ◌≡◌, ◌+◌, ◌-◌, ◌<◌, ◌≤◌, true, false, nat_eq, nat_lt, Some, None, Result, Ok, Err, List, [], length, get_or, set, take, map, replicate, refl, sym, ap, ◌∙◌, subst, inl, inr, ⊎_elim, arith}
 use Rattle.std.specs.Prelude.{All, Contains, IfOk, MatchOption}
 use Rattle.std.specs.List.{list_any}
 use Rattle.std.proofs.lemmas.Bool.{cases_lt, both_ways, lt-ltb, le-ltb}
@@ -7,10 +7,10 @@ use Rattle.std.proofs.lemmas.List.{length-replicate, take_all}
 use Rattle.std.proofs.lemmas.List.Elements.{All-weaker, All-filter, All-from_get_or}
 use Rattle.std.proofs.lemmas.List.Folds.{list_any_at, list_any_none}
 use Rattle.std.proofs.lemmas.List.Sums.{length-filter, count_by-le-length}
-use Rattle.service_model.specs.Search.{first_of, first_below}
+use Rattle.service_model.specs.Search.{first_of}
 use Rattle.service_model.specs.Walks.{NoCycle}
 use Rattle.service_model.proofs.SearchFacts.{below_none}
-use Rattle.service_model.proofs.OrderLaws.{place_stage, stage_place, order_long}
+use Rattle.service_model.proofs.OrderLaws.{stage_place}
 use Rattle.stage_file.specs.declared.limits.TheConstants.{MAX_EXCESS}
 use Rattle.stage_file.specs.declared.rules.TheConstants.{TOO_LARGE}
 use Rattle.stage_file.specs.declared.fault.FileFault.{FileFault}
@@ -22,8 +22,8 @@ use Rattle.stage_file.specs.Arcs.{ArcRowWithin}
 use Rattle.stage_file.specs.Faults.{fault_of}
 use Rattle.stage_file.specs.Raw.{IsRawNet}
 use Rattle.demand_tables.specs.Demand.{row_at, arcs_from, excess_at, IsExcess, IsOnlyExcess, ExcessWithin}
-use Rattle.demand_tables.specs.DemandFaults.{supply_arc, turned, has_large, too_large_at, bound_rules, excess_fault, IsExcessFault, IsDemandFault, IsDemandOrder, DemandCase}
-use Rattle.demand_tables.specs.Lookups.{IsAnswered, AreAnswered}
+use Rattle.demand_tables.specs.DemandFaults.{supply_arc, turned, has_large, too_large_at, bound_rules, IsExcessFault, IsDemandFault, IsDemandOrder, DemandCase}
+use Rattle.demand_tables.specs.Lookups.{AreAnswered}
 use Rattle.demand_tables.proofs.ExcessLaws.{finished, one_excess}
 use Rattle.demand_tables.proofs.RuleFacts.{holds, first_fails}
 use Rattle.demand_tables.proofs.SolvedFacts.{Solved, customer_place, customers_before, solved_more, solved_all, earlier_stays, here_is}
@@ -126,9 +126,7 @@ module _ (raw : RawNet) (order : List ℕ) (read : IsRawNet raw) (sorted : IsDem
   pub stopped : (k : ℕ) (lists : List (List ℕ)) (xs : List ℕ) (fault : FileFault) → first_of (bound_rules raw) ≡ None → k < length order → SoFar raw order k lists → IsExcess raw lists (get_or order k 0) xs
       → list_any (nat_lt MAX_EXCESS) xs ≡ true → fault ≡ fault_of Stages (row_at raw (get_or order k 0)).row TOO_LARGE 6 → IsDemandFault raw (Some fault)
   stopped k lists xs fault none inside so is large at =
-      let more = set lists (get_or order k 0) xs in
       let rest = finished raw order sorted none (length order - (k + 1)) (k + 1) (set lists (get_or order k 0) xs) (omega arith) (solved_more raw order sorted k lists xs inside so.solved is) in
-      let full = rest.0 in
       let here : excess_at rest.0 (get_or order k 0) ≡ xs = rest.2 k (omega arith) ∙ here_is raw order sorted k lists xs so.solved.long inside in
       let there : has_large raw.horizon (excess_at rest.0 (get_or order k 0)) ≡ true = ap (has_large raw.horizon) here ∙ large_is raw.horizon xs (lasts k lists xs inside so is).short ∙ large in
       let first = first_fails (λ p. too_large_at raw rest.0 (get_or order p 0)) (length order) k (row_at raw (get_or order k 0)).row TOO_LARGE (has_large raw.horizon (excess_at rest.0 (get_or order k 0)))

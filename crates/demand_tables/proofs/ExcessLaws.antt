@@ -1,5 +1,5 @@
 -- Records without a cycle have excess demands in one way, where each bound names a table or has its customers.
-use Rattle.std.proofs.Common.{ℕ, zero, suc, ◌≡◌, ◌+◌, ◌==◌, ◌<◌, ◌≤◌, Bool, true, false, None, List, [], length, get_or, set, map, replicate, refl, sym, ap, ◌∙◌, inl, inr, arith}
+use Rattle.std.proofs.Common.{ℕ, zero, suc, ◌≡◌, ◌+◌, ◌==◌, ◌<◌, Bool, true, false, None, List, [], length, get_or, set, map, replicate, refl, sym, ◌∙◌, inl, inr, arith}
 use Rattle.std.specs.Prelude.{All, ◌&&◌}
 use Rattle.std.proofs.lemmas.Bool.{cases_lt, and_from, both_ways, eq-eqb}
 use Rattle.std.proofs.lemmas.List.{ext_get_or, length-replicate}

@@ -1,5 +1,5 @@
 -- The demand order: where no stage reaches itself, taking the lowest ready stage takes all.
-use Rattle.std.proofs.Common.{ℕ, ◌<◌, List, length, map, ⊎_elim}
+use Rattle.std.proofs.Common.{ℕ, List, length, map, ⊎_elim}
 use Rattle.std.specs.Prelude.{All, Contains}
 use Rattle.service_model.specs.Walks.{NoCycle}
 use Rattle.service_model.specs.Orders.{IsFront}

@@ -1,5 +1,5 @@
 -- A rule that fails at a stage, and one that holds there.
-use Rattle.std.proofs.Common.{◌≡◌, ℕ, ◌+◌, ◌<◌, Bool, true, false, Option, Some, None, refl, sym, ap, ◌∙◌}
+use Rattle.std.proofs.Common.{◌≡◌, ℕ, ◌+◌, ◌<◌, Bool, true, false, Option, Some, None, refl, ◌∙◌}
 use Rattle.service_model.specs.Search.{first_below}
 use Rattle.service_model.proofs.SearchFacts.{first_below_step, first_below_found}
 use Rattle.stage_file.specs.declared.fault.FileFault.{FileFault}

@@ -1,11 +1,11 @@
 -- The length of the shortest excess demand.
-use Rattle.std.proofs.Common.{◌≡◌, ℕ, ◌+◌, ◌<◌, ◌≤◌, min, List, length, get_or, take, refl, sym, ap, ◌∙◌, subst, inl, inr, arith}
+use Rattle.std.proofs.Common.{◌≡◌, ℕ, ◌+◌, ◌<◌, ◌≤◌, min, List, length, get_or, take, inl, inr, arith}
 use Rattle.std.specs.Prelude.{All, Any}
 use Rattle.std.proofs.lemmas.Bool.{cases_lt}
 use Rattle.std.proofs.lemmas.List.{get_or_default}
 use Rattle.std.proofs.lemmas.List.Elements.{All-weaker, All-more}
 use Rattle.stage_file.specs.declared.arcs.ArcRow.{ArcRow}
-use Rattle.demand_tables.specs.Demand.{excess_at, IsShortest}
+use Rattle.demand_tables.specs.Demand.{excess_at}
 
 abbrev pub length_on : List (List ℕ) → ArcRow → ℕ
 length_on lists a = length (excess_at lists a.customer)

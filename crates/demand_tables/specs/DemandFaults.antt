@@ -1,5 +1,5 @@
 -- The rules on bounds and excess demands, in their order, and the first that fails.
-use Rattle.std.specs.Prelude.{◌≡◌, ℕ, ◌+◌, ◌<◌, ◌==◌, ◌&&◌, Bool, true, false, nat_lt, List, [], ◌∷◌, length, take, map, slice_index, Option, Some, None, is_none, MatchOption, Result, Ok, Err, ⊤}
+use Rattle.std.specs.Prelude.{◌≡◌, ℕ, ◌+◌, ◌==◌, ◌&&◌, Bool, true, false, nat_lt, List, [], ◌∷◌, length, take, map, slice_index, Option, Some, None, is_none, MatchOption, Result, Ok, Err, ⊤}
 use Rattle.std.specs.List.{list_any}
 use Rattle.service_model.specs.declared.stage.SupplyArc.{SupplyArc}
 use Rattle.service_model.specs.Search.{first_of, first_below}
@@ -16,7 +16,7 @@ use Rattle.stage_file.specs.declared.arcs.ArcRow.{ArcRow}
 use Rattle.stage_file.specs.declared.raw.RawNet.{RawNet}
 use Rattle.stage_file.specs.Arcs.{place_of}
 use Rattle.stage_file.specs.Faults.{fails_if}
-use Rattle.demand_tables.specs.Demand.{row_at, table_names, arcs_from, excess_at, HasExcess, ExcessWithin}
+use Rattle.demand_tables.specs.Demand.{row_at, table_names, arcs_from, excess_at, HasExcess}
 
 -- an arc without its quantity
 abbrev pub supply_arc : ArcRow → SupplyArc

@@ -83,11 +83,7 @@ fn empty_lists(alloc: Global, stages: usize) -> Result<Vec<List<ArcRow>>, NoMemo
 }
 
 // For each stage the arcs to its customers.
-fn arc_lists(
-    alloc: Global,
-    stages: usize,
-    arcs: &[ArcRow],
-) -> Result<Vec<List<ArcRow>>, NoMemory>
+fn arc_lists(alloc: Global, stages: usize, arcs: &[ArcRow]) -> Result<Vec<List<ArcRow>>, NoMemory>
     requires { All (λ a. a.supplier < stages) arcs.now }
     ensures { IfOk result (λ lists. HasArcs stages arcs.now lists.items) }
 {

@@ -22,12 +22,9 @@ pub fn front(alloc: Global, links: &Links) -> Result<List<u32>, NoMemory>
     Ok(order)
 }
 
-/// The same of arcs between so many stages. All stages are taken where there is no cycle.
-pub fn lowest_first(
-    alloc: Global,
-    stages: usize,
-    arcs: &[SupplyArc],
-) -> Result<List<u32>, NoMemory>
+/// Takes again and again the lowest stage whose suppliers on these arcs were all taken, until there is none: all
+/// stages, where no stage reaches itself.
+pub fn lowest_first(alloc: Global, stages: usize, arcs: &[SupplyArc]) -> Result<List<u32>, NoMemory>
     requires few { stages < 2 ^ 32 }
     requires ends { HasEnds stages arcs.now }
     ensures { IfOk result (IsFront stages arcs.now) }

@@ -1,4 +1,4 @@
-use Rattle.std.proofs.Common.{◌≡◌, Option, Some, sym, ap, ◌∙◌, length, arith, ◌<◌}
+use Rattle.std.proofs.Common.{Some, sym, ap, ◌∙◌, length, arith}
 use Rattle.stage_file.specs.declared.fault.FileKind.TheVariants.{Stages}
 use Rattle.stage_file.specs.declared.rules.TheConstants.{NO_TABLE}
 use Rattle.stage_file.specs.declared.stages.StageRow.{StageRow}

@@ -1,10 +1,8 @@
-use Rattle.std.proofs.Common.{ℕ, ◌≡◌, ◌<◌, true, false, length, List, refl, sym, ap, ◌∙◌, subst}
-use Rattle.std.specs.Option.{IsSome}
-use Rattle.stage_file.specs.declared.arcs.ArcRow.{ArcRow}
+use Rattle.std.proofs.Common.{◌≡◌, false, ap, ◌∙◌, subst}
 use Rattle.stage_file.specs.declared.stages.Bound.{Bound}
 use Rattle.stage_file.specs.declared.stages.Bound.TheVariants.{Named, Sum, Pool}
 use Rattle.stage_file.specs.declared.stages.StageRow.{StageRow}
-use Rattle.demand_tables.specs.Demand.{no_row, row_at, named_excess, table_names}
+use Rattle.demand_tables.specs.Demand.{no_row, row_at, table_names}
 use Rattle.demand_tables.specs.DemandFaults.{lacks_table, asks_customers}
 use Rattle.demand_tables.proofs.ExcessLaws.{rules_hold}
 use Rattle.demand_tables.proofs.MadeFacts.{named_some}

@@ -1,4 +1,4 @@
-use Rattle.std.proofs.Common.{◌<◌, length, arith}
+use Rattle.std.proofs.Common.{arith}
 use Rattle.demand_tables.proofs.AskedFacts.{sum_fits}
 use Rattle.demand_tables.proofs.joined.sum_at.Goals as goal
 
