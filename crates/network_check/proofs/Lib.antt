@@ -1,1 +1,5 @@
+mod CheckedFacts
+mod LimitFacts
 pub mod RefusalLaws
+mod StageFacts
+mod TogetherFacts

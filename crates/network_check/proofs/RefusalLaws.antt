@@ -1,5 +1,5 @@
 -- The first rule that fails on files is one, and so is their network.
-use Rattle.std.proofs.Common.{◌≡◌, ℕ, ◌<◌, List, [], ◌∷◌, length, map, Option, Some, None, Ok, refl, sym, subst, ap, ◌∙◌, arith, inl, inr}
+use Rattle.std.proofs.Common.{◌≡◌, ℕ, List, [], ◌∷◌, length, Option, Some, None, Ok, refl, sym, subst, ap, ◌∙◌, arith, inl, inr}
 use Rattle.std.specs.Option.{MatchOption}
 use Rattle.std.proofs.lemmas.List.{length-map}
 use Rattle.std.proofs.lemmas.Bool.{cases_lt}
@@ -19,7 +19,6 @@ use Rattle.stage_file.specs.Raw.{raw_fault, raw_of, IsRawNet}
 use Rattle.stage_file.proofs.StageLimits as stage_limits
 use Rattle.stage_file.proofs.TableLimits as table_limits
 use Rattle.stage_file.proofs.ArcLimits as arc_limits
-use Rattle.demand_tables.specs.Demand.{HasExcess}
 use Rattle.demand_tables.specs.DemandFaults.{bound_rules, excess_fault, IsExcessFault, IsDemandFault}
 use Rattle.demand_tables.proofs.ExcessLaws.{one_excess}
 use Rattle.network_check.specs.declared.checked.Checked.{Checked}

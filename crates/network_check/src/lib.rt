@@ -3,6 +3,9 @@
 
 mod checked;
 mod network;
+mod records;
+#[cfg(test)]
+mod tests;
 
 pub use checked::Checked;
 pub use network::{check, check_records, topological};
