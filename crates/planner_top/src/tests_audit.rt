@@ -32,43 +32,60 @@ fn audit_over(alloc: Global, plan: &str, out: &mut SureSink) -> Result<Status, F
     Ok(run_once(alloc, &words, &mut shelf, out))
 }
 
+// Plans of the diamond, with the status and what is printed.
+struct Audited<'a> {
+    plan: &'a str,
+    status: Status,
+    text: &'a str,
+}
+
+const PLANS: [Audited<'static>; 7] = [
+    Audited {
+        plan: "A,0,2\nB,2,0\nC,2,0\nD,0,0\n",
+        status: Status::Done,
+        text: "feasible,7\nstage,inbound,outbound,time,stock,cost\nA,0,2,0,0,0\nB,2,0,2,6,6\nC,2,0,2,1,1\nD,0,0,0,0,0\n",
+    },
+    Audited {
+        plan: "A,0,2\nB,2,0\nC,2,2\nD,0,0\n",
+        status: Status::NotFeasible,
+        text: "broken,B7,C,D\n",
+    },
+    Audited {
+        plan: "D,0,1\nC,2,2\nB,3,0\nA,0,2\n",
+        status: Status::NotFeasible,
+        text: "broken,B2,B\n",
+    },
+    Audited {
+        plan: "D,0,0\nC,2,0\nB,2,0\nZ,0,0\n",
+        status: Status::Refused,
+        text: "refused,F18,plan,5,1\n",
+    },
+    Audited {
+        plan: "A,0,2\nA,0,2\n",
+        status: Status::Refused,
+        text: "refused,F18,plan,3,1\n",
+    },
+    Audited {
+        plan: "A,0,2\nB,2,0\nC,2,0\n",
+        status: Status::Refused,
+        text: "refused,F19,plan,0,0\n",
+    },
+    Audited {
+        plan: "A,0\n",
+        status: Status::Refused,
+        text: "refused,F3,plan,2,0\n",
+    },
+];
+
 #[test]
 fn a_plan_of_the_diamond_is_audited(rt: HostRuntime) -> Result<(), Fail> {
     let alloc = rt.alloc();
-    let cases = [
-        (
-            "A,0,2\nB,2,0\nC,2,0\nD,0,0\n",
-            Status::Done,
-            "feasible,7\nstage,inbound,outbound,time,stock,cost\nA,0,2,0,0,0\nB,2,0,2,6,6\nC,2,0,2,1,1\nD,0,0,0,0,0\n",
-        ),
-        (
-            "A,0,2\nB,2,0\nC,2,2\nD,0,0\n",
-            Status::NotFeasible,
-            "broken,B7,C,D\n",
-        ),
-        (
-            "D,0,1\nC,2,2\nB,3,0\nA,0,2\n",
-            Status::NotFeasible,
-            "broken,B2,B\n",
-        ),
-        (
-            "D,0,0\nC,2,0\nB,2,0\nZ,0,0\n",
-            Status::Refused,
-            "refused,F18,plan,5,1\n",
-        ),
-        ("A,0,2\nA,0,2\n", Status::Refused, "refused,F18,plan,3,1\n"),
-        (
-            "A,0,2\nB,2,0\nC,2,0\n",
-            Status::Refused,
-            "refused,F19,plan,0,0\n",
-        ),
-        ("A,0\n", Status::Refused, "refused,F3,plan,2,0\n"),
-    ];
-    for (plan, status, text) in cases {
-        let plan = format!(in alloc; "stage,inbound,outbound\n{plan}")?;
+    for case in &PLANS {
+        let file = format!(in alloc; "stage,inbound,outbound\n{}", case.plan)?;
         let mut out = SureSink::new(alloc);
-        let got = audit_over(alloc, plan.as_str(), &mut out)?;
-        assert_eq!(rt; (got, out.written()), (status, text.as_bytes()));
+        let status = audit_over(alloc, file.as_str(), &mut out)?;
+        let got = (status, out.written());
+        assert_eq!(rt; got, (case.status, case.text.as_bytes()));
     }
     Ok(())
 }
