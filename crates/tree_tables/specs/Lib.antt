@@ -1,1 +1,3 @@
 pub mod Fills
+pub mod Leasts
+pub mod Sums

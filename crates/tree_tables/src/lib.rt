@@ -3,6 +3,8 @@
 
 mod filled;
 mod fills;
+mod local;
+mod sums;
 mod wanted;
 
 pub use filled::Filled;
