@@ -1,2 +1,3 @@
 mod ListFacts
 mod LeastFacts
+mod TightFacts

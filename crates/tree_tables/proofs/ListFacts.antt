@@ -1,5 +1,7 @@
 -- The least of a part of a list, one value more or fewer.
-use Rattle.std.proofs.Common.{ℕ, zero, suc, ◌≡◌, ◌+◌, ◌-◌, ◌<◌, ◌≤◌, min, List, [], ◌∷◌, length, get_or, take, drop, refl, sym, ap, ◌∙◌, add-one, arith}
+use Rattle.std.proofs.Common.{ℕ, zero, suc, ◌≡◌, ◌+◌, ◌-◌, ◌<◌, ◌≤◌, min, List, [], ◌∷◌, ◌++◌, length, get_or, take, drop, refl, subst, sym, ap, ◌∙◌, ⊎_elim, add-one, arith}
+use Rattle.std.proofs.lemmas.Bool.{cases_eq}
+use Rattle.std.proofs.lemmas.List.{get_or_push, get_or_append_left}
 use Rattle.std.proofs.lemmas.List.{take_all, drop_all}
 use Rattle.service_model.specs.declared.limits.TheConstants.{INF}
 use Rattle.service_model.specs.Tables.{least_of}
@@ -49,3 +51,18 @@ least_before xs o shift floor after within =
     let one = least_drop_suc xs (o + shift - floor) within in
     let two : least_of (drop (suc (o + shift - floor)) xs) ≡ least_of (drop (o + 1 + shift - floor) xs) = ap (λ k. least_of (drop k xs)) same in
     omega (arith, one, two)
+
+-- one value more at the end
+pub pushed : (P : ℕ → ℕ → Type 0) (low i v : ℕ) (xs ys : List ℕ) → ys ≡ xs ++ v ∷ [] → low ≤ i → length xs ≡ i - low
+    → ((o : ℕ) → low ≤ o → o < i → P o (get_or xs (o - low) 0)) → P i v
+    → (o : ℕ) → low ≤ o → o < i + 1 → P o (get_or ys (o - low) 0)
+pushed P low i v xs ys is from long each here o above below = ⊎_elim
+    (λ same.
+    let at : get_or (xs ++ v ∷ []) (o - low) 0 ≡ v = get_or_push xs v 0 (o - low) (omega (arith, long, same)) in
+    let value : v ≡ get_or ys (o - low) 0 = sym (ap (λ zs. get_or zs (o - low) 0) is ∙ at) in
+    subst (λ k. P k (get_or ys (o - low) 0)) (sym same) (subst (P i) value here))
+    (λ other.
+    let old : get_or (xs ++ v ∷ []) (o - low) 0 ≡ get_or xs (o - low) 0 = get_or_append_left xs (v ∷ []) 0 (o - low) (omega (arith, long)) in
+    let value : get_or xs (o - low) 0 ≡ get_or ys (o - low) 0 = sym (ap (λ zs. get_or zs (o - low) 0) is ∙ old) in
+    subst (P o) value (each o above (omega arith)))
+    (cases_eq o i)

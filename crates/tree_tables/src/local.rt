@@ -1,12 +1,14 @@
 // The local sums of a stage: its cost at two times, and what its children cost at least at these.
-ghost use Rattle.std.specs.Prelude.{◌≡◌, ◌+◌, ◌-◌, ◌<◌, ◌≤◌, ◌^◌, ℕ, All, length, reverse, slice_index};
+ghost use Rattle.std.specs.Prelude.{◌≡◌, ◌+◌, ◌-◌, ◌<◌, ◌≤◌, ◌^◌, ℕ, All, IfOk, length, reverse, slice_index};
 ghost use Rattle.service_model.specs.Plans.{charge};
 ghost use Rattle.tree_tables.specs.Leasts.{IsLeast, IsLeastPair};
 
-use service_model::{INF, Stage, capped_add};
+use service_model::{INF, NoMemory, Stage, capped_add};
+use std::alloc::Global;
 use std::marker::Model;
 
 /// A stage, with the sums over its children at each inbound and at each outbound time.
+#[derive(Drop)]
 pub struct LocalSums<'a> {
     stage: &'a Stage,
     down: &'a [u64],
@@ -35,6 +37,23 @@ impl<'a> LocalSums<'a> {
         ensures up { result.up ≡ up.now }
     {
         LocalSums { stage, down, up }
+    }
+
+    /// How many inbound and how many outbound times there are.
+    pub fn times(&self) -> usize
+        ensures down { result ≡ length self.now.down }
+        ensures up { result ≡ length self.now.up }
+    {
+        self.down.len()
+    }
+
+    /// The sums at each outbound time, from the last to the first.
+    pub fn turned(&self, alloc: Global) -> Result<Vec<u64>, NoMemory>
+        ensures { IfOk result (λ turned. turned.items ≡ reverse self.now.up) }
+    {
+        let mut turned = Vec::from_slice(alloc, self.up)?;
+        turned.reverse();
+        Ok(turned)
     }
 
     /// The least local sum at an outbound time, over the inbound times of an interval.
@@ -84,14 +103,7 @@ impl<'a> LocalSums<'a> {
 
 // The least sum of an entry and of the cost at its time, over the times of an interval: `early` times before the entry's
 // the cost list starts, `late` after it.
-fn least_sum(
-    sums: &[u64],
-    cost: &[u64],
-    early: usize,
-    late: usize,
-    from: usize,
-    to: usize,
-) -> u64
+fn least_sum(sums: &[u64], cost: &[u64], early: usize, late: usize, from: usize, to: usize) -> u64
     requires sums { All (λ x. x ≤ INF) sums.now }
     requires cost { All (λ x. x ≤ INF) cost.now }
     requires early { early < 2 ^ 32 }

@@ -1,5 +1,5 @@
 -- One time more.
-use Rattle.std.proofs.Common.{ℕ, ◌+◌, ◌-◌, get_or, subst, sym, arith}
+use Rattle.std.proofs.Common.{ℕ, ◌+◌, get_or, subst, sym, arith}
 use Rattle.service_model.specs.Plans.{charge}
 use Rattle.tree_tables.specs.Leasts.{IsLeast}
 use Rattle.tree_tables.proofs.LeastFacts.{charge_at, least_more}
