@@ -1,3 +1,4 @@
 pub mod Fills
 pub mod Leasts
 pub mod Sums
+pub mod Steps

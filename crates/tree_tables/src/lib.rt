@@ -5,6 +5,7 @@ mod filled;
 mod fills;
 mod local;
 mod sums;
+mod times;
 mod values;
 mod wanted;
 

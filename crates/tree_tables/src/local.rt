@@ -43,8 +43,20 @@ impl<'a> LocalSums<'a> {
     pub fn times(&self) -> usize
         ensures down { result ≡ length self.now.down }
         ensures up { result ≡ length self.now.up }
+        ensures short { result < 2 ^ 16 }
     {
         self.down.len()
+    }
+
+    /// The local sum at two times.
+    pub fn at(&self, inbound: usize, outbound: usize) -> u64
+        requires inbound { inbound < length self.now.down }
+        requires outbound { outbound < length self.now.up }
+        ensures { result ≡ local_at self.now inbound outbound }
+    {
+        // There are so few times that the sum fits.
+        let _times = self.times();
+        self.least_inbound(inbound, inbound + 1, outbound)
     }
 
     /// The sums at each outbound time, from the last to the first.
