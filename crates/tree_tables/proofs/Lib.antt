@@ -2,3 +2,7 @@ mod ListFacts
 mod LeastFacts
 mod TightFacts
 mod TimeFacts
+mod PlaceFacts
+mod DepthFacts
+mod ChildFacts
+mod TraceSteps
