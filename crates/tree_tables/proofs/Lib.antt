@@ -6,3 +6,4 @@ mod PlaceFacts
 mod DepthFacts
 mod ChildFacts
 mod TraceSteps
+pub mod FillLaws
