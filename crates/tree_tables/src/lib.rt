@@ -3,8 +3,17 @@
 
 mod filled;
 mod fills;
+mod local;
+mod places;
+mod sums;
+#[cfg(test)]
+mod tests;
+mod times;
+mod traces;
+mod values;
 mod wanted;
 
 pub use filled::Filled;
 pub use fills::fill;
+pub use traces::trace;
 pub use wanted::{ChildList, Wanted};
