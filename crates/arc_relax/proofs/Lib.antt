@@ -1,5 +1,7 @@
+mod KindFacts
 mod ListFacts
 mod TableFacts
+mod MadeFacts
 mod WholeFacts
 mod TraceFacts
 mod BoundFacts

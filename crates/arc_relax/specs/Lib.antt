@@ -1,2 +1,4 @@
+pub mod Kinds
 pub mod StageTables
+pub mod Nodes
 pub mod Laws

@@ -1,2 +1,6 @@
 //! A range over a forest of the stages: the least cost of its plans, with the arcs left out that the forest drops.
 #![tactic(auto)]
+
+mod kinds;
+mod node;
+mod tables;
