@@ -28,6 +28,10 @@ pub record IsAsWanted (w : Wanted) (t : Table) : Type 0 where
   pub floor : t.floor ≡ w.floor
   pub children : t.children ≡ w.children.items
 
+-- the table that is wanted, with these values
+abbrev pub table_of : Wanted → List ℕ → Table
+table_of w values = record { stage = w.stage; kind = w.kind; least = w.least; most = w.most; floor = w.floor; children = w.children.items; values = values }
+
 -- the table is what filling over these tables gives: its values are the least local sums
 pub record IsFill (n : Net) (tables : List Table) (t : Table) : Type 0 where
   pub sized : IsSized n t

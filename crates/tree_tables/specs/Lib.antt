@@ -1,1 +1,4 @@
 pub mod Fills
+pub mod Leasts
+pub mod Sums
+pub mod Steps

@@ -2,8 +2,9 @@
 ghost use Rattle.std.specs.Prelude.{◌≡◌, ◌+◌, ◌<◌, ◌^◌, IfOk};
 ghost use Rattle.tree_tables.specs.Fills.{IsWanted, IsAsWanted, IsFill};
 
+use crate::values::values_of;
 use crate::{Filled, Wanted};
-use service_model::{Network, NoMemory};
+use service_model::{List, Network, NoMemory, Table};
 use std::alloc::Global;
 use step_ledger::Steps;
 
@@ -22,5 +23,15 @@ pub fn fill<L>(
     ensures counted { steps.new ≡ steps.old + 1 }
 {
     steps.tick();
-    Err(NoMemory)
+    let children = List::copied(alloc, wanted.children.as_slice())?;
+    let values = values_of(alloc, network, wanted, made)?;
+    Ok(Filled::new(Table {
+        stage: wanted.stage,
+        kind: wanted.kind,
+        least: wanted.least,
+        most: wanted.most,
+        floor: wanted.floor,
+        children,
+        values,
+    }))
 }

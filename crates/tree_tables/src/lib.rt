@@ -3,6 +3,10 @@
 
 mod filled;
 mod fills;
+mod local;
+mod sums;
+mod times;
+mod values;
 mod wanted;
 
 pub use filled::Filled;

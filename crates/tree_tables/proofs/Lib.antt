@@ -1,0 +1,4 @@
+mod ListFacts
+mod LeastFacts
+mod TightFacts
+mod TimeFacts
