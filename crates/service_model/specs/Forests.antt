@@ -1,5 +1,5 @@
 -- The forest of the walk: the order in which it sees the stages, their parents, and the arcs that it keeps.
-use Rattle.std.specs.Prelude.{◌≡◌, ◌≢◌, ℕ, zero, suc, ◌<◌, ◌≤◌, ◌⊎◌, List, [], ◌∷◌, length, slice_index, slice_index_or, All, AllPairs, Contains}
+use Rattle.std.specs.Prelude.{◌≡◌, ◌≢◌, ℕ, zero, suc, ◌<◌, ◌⊎◌, List, [], ◌∷◌, length, slice_index, slice_index_or, All, AllPairs, Contains}
 use Rattle.std.specs.List.{flat_map}
 use Rattle.service_model.specs.declared.stage.SupplyArc.{SupplyArc}
 use Rattle.service_model.specs.Net.{arc_in}
@@ -42,11 +42,13 @@ pub record HasEachOnce (n : ℕ) (xs : List ℕ) : Type 0 where
 pub record IsSeenOrder (stages : ℕ) (arcs : List SupplyArc) (seen : List ℕ) : Type 0 where
   pub each_once : HasEachOnce stages seen
   -- the stages of a group stand together
-  pub together : (k l m : ℕ) → k < l → l < m → m < length seen → SameGroup arcs (slice_index seen k) (slice_index seen m) → SameGroup arcs (slice_index seen k) (slice_index seen l)
+  pub together : (k l m : ℕ) → k < l → l < m → m < length seen
+      → SameGroup arcs (slice_index seen k) (slice_index seen m) → SameGroup arcs (slice_index seen k) (slice_index seen l)
   -- the groups stand by their lowest stage, which comes first in its group
   pub lowest : (k m : ℕ) → IsFirstOfGroup arcs seen k → k < m → m < length seen → slice_index seen k < slice_index seen m
   -- the others stand by the place of the neighbour that stands first, and then by the number of the arc to it
-  pub sorted : (k m p q a b : ℕ) → k < m → m < length seen → ¬ IsFirstOfGroup arcs seen k → ¬ IsFirstOfGroup arcs seen m → IsTie arcs seen k p a → IsTie arcs seen m q b → (p < q) ⊎ ((p ≡ q) × (a < b))
+  pub sorted : (k m p q a b : ℕ) → k < m → m < length seen → ¬ IsFirstOfGroup arcs seen k → ¬ IsFirstOfGroup arcs seen m
+      → IsTie arcs seen k p a → IsTie arcs seen m q b → (p < q) ⊎ ((p ≡ q) × (a < b))
 
 -- x is the parent of the stage at place k: the stage itself where it is the first of its group, else the neighbour that stands first
 abbrev pub IsParentAt : List SupplyArc → List ℕ → ℕ → ℕ → Type 0

@@ -1,13 +1,12 @@
 -- The stages at and below a stage of the forest: each once, and each stage at or below one root.
-use Rattle.std.proofs.Common.{ℕ, zero, suc, ◌≡◌, ◌≢◌, ◌+◌, ◌-◌, ◌<◌, ◌≤◌, ◌==◌, true, List, [], ◌∷◌, length, get_or, reverse, refl, sym, ap, ◌∙◌, subst, inl, inr, ⊎_elim, arith}
-use Rattle.std.specs.Prelude.{All, AllPairs, Contains, ◌⊎◌}
+use Rattle.std.proofs.Common.{ℕ, zero, suc, ◌≡◌, ◌≢◌, ◌+◌, ◌-◌, ◌<◌, ◌≤◌, ◌==◌, List, [], get_or, reverse, refl, sym, ap, ◌∙◌, subst, ⊎_elim, arith}
+use Rattle.std.specs.Prelude.{AllPairs, Contains}
 use Rattle.std.specs.List.{flat_map}
 use Rattle.std.proofs.lemmas.Bool.{cases_eq, cases_lt, cases_order, eq-eqb, eqb-true}
-use Rattle.std.proofs.lemmas.List.{length-reverse}
 use Rattle.std.proofs.lemmas.List.Elements.{All-contains, Contains-get_or}
 use Rattle.std.proofs.lemmas.List.Kept.{AllPairs-filter}
 use Rattle.service_model.specs.declared.stage.SupplyArc.{SupplyArc}
-use Rattle.service_model.specs.Forests.{HasEachOnce, IsWalk, IsChildOf, ArePickedFor, below_within}
+use Rattle.service_model.specs.Forests.{HasEachOnce, IsChildOf, ArePickedFor, below_within}
 use Rattle.tree_order.specs.declared.forest.Forest.{Forest}
 use Rattle.tree_order.specs.Forest.{IsForest, roots_of}
 use Rattle.tree_order.proofs.BelowFacts.{in_cons, in_head, in_tail, in_flat, flat_has, in_filter, filter_has, Once, pairs_from_once, once_from_pairs, flat_once}
@@ -57,8 +56,7 @@ below_up stages parent children has (suc steps) i q low h = ⊎_elim
     let kids = has.each i low in
     let kid_low : r.0 < stages = All-contains (λ j. j < stages) (get_or children i []) r.0 kids.low r.1 in
     let deep = below_up stages parent children has steps r.0 q kid_low r.2 in
-    let e : deep.1.0 + suc zero ≡ suc deep.1.0 = omega arith in
-    (
+    let e : deep.1.0 + suc zero ≡ suc deep.1.0 = omega arith in (
       deep.0,
       (suc deep.1.0, ap (up parent q) (sym e) ∙ up_add parent deep.1.0 (suc zero) q ∙ ap (λ v. up parent v (suc zero)) deep.1.1 ∙ (kids.only r.0 r.1).0),
     ))
@@ -122,29 +120,28 @@ once_below stages parent children rank ranked has zero i low = tt
 once_below stages parent children rank ranked has (suc steps) i low =
     let kids = has.each i low in
     let cs = get_or children i [] in
-    let kid_low = All-contains (λ j. j < stages) (get_or children i []) in
-    (
+    let kid_low = All-contains (λ j. j < stages) (get_or children i []) in (
       λ h.
-        let r = in_flat (below_within steps children) cs i h in
-        let child = kids.only r.0 r.1 in
-        let deep = below_up stages parent children has steps r.0 i (kid_low r.0 kids.low r.1) r.2 in
-        let le = (up_low stages parent rank ranked deep.1.0 i low).1 in
-        ⊎_elim
-        (λ same. child.1 (sym child.0 ∙ same))
-        (λ fall. omega (arith, fall, le, ap rank deep.1.1, ap rank child.0))
-        (ranked.falls r.0 (kid_low r.0 kids.low r.1)),
+          let r = in_flat (below_within steps children) cs i h in
+          let child = kids.only r.0 r.1 in
+          let deep = below_up stages parent children has steps r.0 i (kid_low r.0 kids.low r.1) r.2 in
+          let le = (up_low stages parent rank ranked deep.1.0 i low).1 in
+          ⊎_elim
+          (λ same. child.1 (sym child.0 ∙ same))
+          (λ fall. omega (arith, fall, le, ap rank deep.1.1, ap rank child.0))
+          (ranked.falls r.0 (kid_low r.0 kids.low r.1)),
       flat_once (below_within steps children) cs (once_from_pairs cs (λ s t d less inside same. omega (arith, kids.rising s t d less inside, same)))
-      (λ c h. once_below stages parent children rank ranked has steps c (kid_low c kids.low h))
-      (λ c e q h h' other left right.
-      let one = below_up stages parent children has steps c q (kid_low c kids.low h) left in
-      let two = below_up stages parent children has steps e q (kid_low e kids.low h') right in
-      ⊎_elim
-      (λ same. other (sym one.1.1 ∙ ap (up parent q) same ∙ two.1.1))
-      (λ less. ⊎_elim
-      (λ first. apart_up stages parent rank ranked i c e q one.1.0 two.1.0 low (kids.only c h) (kids.only e h') (kid_low e kids.low h') one.1.1 two.1.1 first)
-      (λ second. apart_up stages parent rank ranked i e c q two.1.0 one.1.0 low (kids.only e h') (kids.only c h) (kid_low c kids.low h) two.1.1 one.1.1 second)
-      less)
-      (cases_order one.1.0 two.1.0)),
+          (λ c h. once_below stages parent children rank ranked has steps c (kid_low c kids.low h))
+          (λ c e q h h' other left right.
+          let one = below_up stages parent children has steps c q (kid_low c kids.low h) left in
+          let two = below_up stages parent children has steps e q (kid_low e kids.low h') right in
+          ⊎_elim
+          (λ same. other (sym one.1.1 ∙ ap (up parent q) same ∙ two.1.1))
+          (λ less. ⊎_elim
+          (λ first. apart_up stages parent rank ranked i c e q one.1.0 two.1.0 low (kids.only c h) (kids.only e h') (kid_low e kids.low h') one.1.1 two.1.1 first)
+          (λ second. apart_up stages parent rank ranked i e c q two.1.0 one.1.0 low (kids.only e h') (kids.only c h) (kid_low c kids.low h) two.1.1 one.1.1 second)
+          less)
+          (cases_order one.1.0 two.1.0)),
     )
 
 -- what stands at or below a stage stands there once
@@ -195,21 +192,21 @@ list_has_root stages arcs f forest r low root = filter_has (λ j. get_or f.paren
 pub each_below : (stages : ℕ) (arcs : List SupplyArc) (f : Forest) → IsForest stages arcs f → (steps : ℕ) → stages ≤ steps → HasEachOnce stages (flat_map (below_within steps f.children) (roots_of f))
 each_below stages arcs f forest steps enough = record {
   low = λ k d inside.
-    let all = flat_map (below_within steps f.children) (roots_of f) in
-    let r = in_flat (below_within steps f.children) (roots_of f) (get_or all k d) (Contains-get_or all k d inside) in
-    (below_up stages f.parent f.children forest.children steps r.0 (get_or all k d) (root_in_list stages arcs f forest r.0 r.1).0 r.2).0;
+      let all = flat_map (below_within steps f.children) (roots_of f) in
+      let r = in_flat (below_within steps f.children) (roots_of f) (get_or all k d) (Contains-get_or all k d inside) in
+      (below_up stages f.parent f.children forest.children steps r.0 (get_or all k d) (root_in_list stages arcs f forest r.0 r.1).0 r.2).0;
   once = pairs_from_once (flat_map (below_within steps f.children) (roots_of f))
-    (flat_once (below_within steps f.children) (roots_of f)
-    (once_from_pairs (roots_of f) (AllPairs-filter (λ i j. i ≢ j) (λ j. get_or f.parent j 0 == j) f.order (order_each stages arcs f forest).once))
-    (λ r h. once_from_pairs (below_within steps f.children r) (below_once stages arcs f forest steps r (root_in_list stages arcs f forest r h).0))
-    (λ r s q h h' other left right.
-    let root = root_in_list stages arcs f forest r h in
-    let root' = root_in_list stages arcs f forest s h' in
-    other (one_root stages arcs f forest steps steps r s q root.0 root'.0 root.1 root'.1 left right)));
+      (flat_once (below_within steps f.children) (roots_of f)
+      (once_from_pairs (roots_of f) (AllPairs-filter (λ i j. i ≢ j) (λ j. get_or f.parent j 0 == j) f.order (order_each stages arcs f forest).once))
+      (λ r h. once_from_pairs (below_within steps f.children r) (below_once stages arcs f forest steps r (root_in_list stages arcs f forest r h).0))
+      (λ r s q h h' other left right.
+      let root = root_in_list stages arcs f forest r h in
+      let root' = root_in_list stages arcs f forest s h' in
+      other (one_root stages arcs f forest steps steps r s q root.0 root'.0 root.1 root'.1 left right)));
   each = λ j low.
-    let r = below_root stages arcs f forest j low in
-    flat_has (below_within steps f.children) (roots_of f) r.0 j (list_has_root stages arcs f forest r.0 r.1 r.2)
-    (more_steps f.children stages steps r.0 j enough r.3);
+      let r = below_root stages arcs f forest j low in
+      flat_has (below_within steps f.children) (roots_of f) r.0 j (list_has_root stages arcs f forest r.0 r.1 r.2)
+      (more_steps f.children stages steps r.0 j enough r.3);
 }
 
 pub all_below : (stages : ℕ) (arcs : List SupplyArc) (f : Forest) → IsForest stages arcs f → HasEachOnce stages (flat_map (below_within stages f.children) (roots_of f))

@@ -1,6 +1,6 @@
 -- What follows of the forest of a network.
-use Rattle.std.proofs.Common.{ℕ, ◌≡◌, ◌≢◌, ◌+◌, ◌-◌, ◌<◌, ◌≤◌, ◌==◌, Bool, List, [], length, get_or, reverse, refl, sym, ap, ◌∙◌, subst, inl, inr, ⊎_elim, arith}
-use Rattle.std.specs.Prelude.{All, AllPairs, Contains, ◌⊎◌}
+use Rattle.std.proofs.Common.{ℕ, ◌≡◌, ◌-◌, ◌<◌, ◌≤◌, ◌==◌, List, [], length, get_or, reverse, refl, sym, ap, ◌∙◌, subst, inl, inr, ⊎_elim, arith}
+use Rattle.std.specs.Prelude.{All, Contains, ◌⊎◌}
 use Rattle.std.specs.List.{position_or_len}
 use Rattle.std.proofs.lemmas.Bool.{cases_eq, cases_lt, eq-eqb, ne_eqb}
 use Rattle.std.proofs.lemmas.List.{get_or_default, get_or-take, length-take, get_or-reverse, length-reverse, reverse-reverse}
@@ -8,12 +8,11 @@ use Rattle.std.proofs.lemmas.List.Sums.{position_or_len_is}
 use Rattle.std.proofs.lemmas.Map.Steps.{le-length_from_below}
 use Rattle.service_model.specs.declared.stage.SupplyArc.{SupplyArc}
 use Rattle.service_model.specs.Net.{Net, arc_in, no_arc}
-use Rattle.service_model.specs.Walks.{Leads}
 use Rattle.service_model.specs.Faults.{IsNetwork}
-use Rattle.service_model.specs.Forests.{Joins, AreNeighbours, IsTie, HasEachOnce, IsParentAt, IsWalk, IsChildOf, IsKept, ArePicked}
+use Rattle.service_model.specs.Forests.{Joins, AreNeighbours, HasEachOnce, IsWalk, IsChildOf, IsKept}
 use Rattle.tree_order.specs.declared.forest.Forest.{Forest}
 use Rattle.tree_order.specs.Forest.{IsForest, ChildrenFirst, HasOneSide}
-use Rattle.tree_order.proofs.ArcFacts.{joins_stages, one_arc, one_way}
+use Rattle.tree_order.proofs.ArcFacts.{one_arc, one_way}
 use Rattle.tree_order.proofs.SeenFacts.{few_new, among_from}
 use Rattle.tree_order.proofs.PlaceFacts.{place_of}
 use Rattle.tree_order.proofs.WalkFacts.{parent_low}
@@ -40,8 +39,7 @@ back_at xs k inside =
 in_reverse : (xs : List ℕ) (j : ℕ) → Contains (reverse xs) j → Contains xs j
 in_reverse xs j (k, inside, is) =
     let long = length-reverse xs in
-    let low : k < length xs = omega (arith, inside, long) in
-    (
+    let low : k < length xs = omega (arith, inside, long) in (
       length xs - 1 - k,
       omega (arith, low),
       get_or_default xs (length xs - 1 - k) j 0 (omega (arith, low)) ∙ back_at xs (length xs - 1 - k) (omega (arith, low)) ∙ ap (λ n. get_or (reverse xs) n 0) (again (length xs) k low) ∙ get_or_default (reverse xs) k 0 j inside ∙ is,
@@ -54,13 +52,13 @@ in_reverse xs j (k, inside, is) =
 each_back : (n : ℕ) (xs : List ℕ) → HasEachOnce n (reverse xs) → HasEachOnce n xs
 each_back n xs each = record {
   low = λ k d inside.
-    let long = length-reverse xs in
-    omega (arith, get_or_default xs k d 0 inside ∙ back_at xs k inside, each.low (length xs - 1 - k) 0 (omega (arith, long, inside)));
+      let long = length-reverse xs in
+      omega (arith, get_or_default xs k d 0 inside ∙ back_at xs k inside, each.low (length xs - 1 - k) 0 (omega (arith, long, inside)));
   once = λ k m d less inside same.
-    let long = length-reverse xs in
-    let low : k < length xs = omega (arith, less, inside) in
-    each.once (length xs - 1 - m) (length xs - 1 - k) 0 (omega (arith, less, inside)) (omega (arith, long, low))
-    (sym (back_at xs m inside) ∙ get_or_default xs m 0 d inside ∙ sym same ∙ get_or_default xs k d 0 low ∙ back_at xs k low);
+      let long = length-reverse xs in
+      let low : k < length xs = omega (arith, less, inside) in
+      each.once (length xs - 1 - m) (length xs - 1 - k) 0 (omega (arith, less, inside)) (omega (arith, long, low))
+      (sym (back_at xs m inside) ∙ get_or_default xs m 0 d inside ∙ sym same ∙ get_or_default xs k d 0 low ∙ back_at xs k low);
   each = λ j low. in_reverse xs j (each.each j low);
 }
 
@@ -125,15 +123,15 @@ walk_ranked : (stages : ℕ) (arcs : List SupplyArc) (seen parent : List ℕ) �
 walk_ranked stages arcs seen parent walk = record {
   low = parent_low stages arcs seen parent walk;
   falls = λ j low.
-    let at = place_of seen j (walk.order.each_once.each j low) in
-    let up = place_of seen (get_or parent j 0) (walk.order.each_once.each (get_or parent j 0) (parent_low stages arcs seen parent walk j low)) in
-    let le = parent_before stages arcs seen parent walk at.0 up.0 at.1.inside up.1.inside (ap (λ v. get_or parent v 0) at.1.is ∙ sym up.1.is) in
-    let mine = ap (rank_in seen) (sym at.1.is) ∙ rank_at stages seen walk.order.each_once at.0 at.1.inside in
-    let other = ap (rank_in seen) (sym up.1.is) ∙ rank_at stages seen walk.order.each_once up.0 up.1.inside in
-    ⊎_elim
-    (λ same. inl (sym up.1.is ∙ ap (λ v. get_or seen v 0) same ∙ at.1.is))
-    (λ apart. inr (omega (arith, le, apart, mine, other)))
-    (cases_eq up.0 at.0);
+      let at = place_of seen j (walk.order.each_once.each j low) in
+      let up = place_of seen (get_or parent j 0) (walk.order.each_once.each (get_or parent j 0) (parent_low stages arcs seen parent walk j low)) in
+      let le = parent_before stages arcs seen parent walk at.0 up.0 at.1.inside up.1.inside (ap (λ v. get_or parent v 0) at.1.is ∙ sym up.1.is) in
+      let mine = ap (rank_in seen) (sym at.1.is) ∙ rank_at stages seen walk.order.each_once at.0 at.1.inside in
+      let other = ap (rank_in seen) (sym up.1.is) ∙ rank_at stages seen walk.order.each_once up.0 up.1.inside in
+      ⊎_elim
+      (λ same. inl (sym up.1.is ∙ ap (λ v. get_or seen v 0) same ∙ at.1.is))
+      (λ apart. inr (omega (arith, le, apart, mine, other)))
+      (cases_eq up.0 at.0);
 }
 
 pub forest_ranked : (stages : ℕ) (arcs : List SupplyArc) (f : Forest) → IsForest stages arcs f → IsRanked stages f.parent (rank_in (reverse f.order))

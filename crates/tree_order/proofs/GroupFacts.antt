@@ -1,12 +1,11 @@
 -- Groups: the stages that arcs join, one after the other.
-use Rattle.std.proofs.Common.{ℕ, zero, suc, ◌≡◌, ◌≢◌, ◌+◌, ◌<◌, ◌≤◌, List, length, get_or, sym, ap, ◌∙◌, subst, inl, inr, ⊎_elim, refl, arith}
-use Rattle.std.specs.Prelude.{Contains, ◌⊎◌}
+use Rattle.std.proofs.Common.{ℕ, zero, suc, ◌≡◌, ◌<◌, ◌≤◌, List, length, get_or, sym, subst, ⊎_elim, refl, arith}
 use Rattle.std.proofs.lemmas.Bool.{cases_eq, cases_lt}
 use Rattle.service_model.specs.declared.stage.SupplyArc.{SupplyArc}
 use Rattle.service_model.specs.Net.{arc_in}
-use Rattle.service_model.specs.Forests.{Joins, AreNeighbours, Chain, SameGroup, IsFirstOfGroup, IsTie}
+use Rattle.service_model.specs.Forests.{AreNeighbours, Chain, SameGroup, IsFirstOfGroup}
 use Rattle.tree_order.specs.Links.{JoinsStages}
-use Rattle.tree_order.proofs.ArcFacts.{OneArc, joins_back, neighbours_back}
+use Rattle.tree_order.proofs.ArcFacts.{joins_back, neighbours_back}
 use Rattle.tree_order.proofs.LinkFacts.{joined_low}
 use Rattle.tree_order.proofs.PlaceFacts.{IsRootAt, IsChildAt, IsWalkOrder, find_child, place_of}
 
@@ -48,19 +47,21 @@ root_below stages arcs seen order (suc fuel) k less inside = ⊎_elim
     let p = c.0 in
     let child = c.2 in
     let joined : AreNeighbours arcs (get_or seen c.0 0) (get_or seen k 0) = (c.1, child.arc, child.joins) in
-    let up = root_below stages arcs seen order fuel c.0 (omega (arith, less, child.earlier)) (omega (arith, inside, child.earlier)) in
-    (up.0, record {
-      before = omega (arith, up.1.before, child.earlier);
-      root = up.1.root;
-      group = group_step arcs (get_or seen up.0 0) (get_or seen c.0 0) (get_or seen k 0) up.1.group joined;
-      none_between = λ s after before root. ⊎_elim
-        (λ low. ⊎_elim
-        (λ same. root c.0 low (subst (λ v. AreNeighbours arcs (get_or seen c.0 0) (get_or seen v 0)) (sym same) joined))
-        (λ other. order.together s k c.0 root (omega (arith, before, other)) inside low joined)
-        (cases_eq s k))
-        (λ high. up.1.none_between s after high root)
-        (cases_lt c.0 s);
-    }))
+    let up = root_below stages arcs seen order fuel c.0 (omega (arith, less, child.earlier)) (omega (arith, inside, child.earlier)) in (
+      up.0,
+      record {
+        before = omega (arith, up.1.before, child.earlier);
+        root = up.1.root;
+        group = group_step arcs (get_or seen up.0 0) (get_or seen c.0 0) (get_or seen k 0) up.1.group joined;
+        none_between = λ s after before root. ⊎_elim
+            (λ low. ⊎_elim
+            (λ same. root c.0 low (subst (λ v. AreNeighbours arcs (get_or seen c.0 0) (get_or seen v 0)) (sym same) joined))
+            (λ other. order.together s k c.0 root (omega (arith, before, other)) inside low joined)
+            (cases_eq s k))
+            (λ high. up.1.none_between s after high root)
+            (cases_lt c.0 s);
+      },
+    ))
     (find_child arcs seen k)
 
 pub root_of : (stages : ℕ) (arcs : List SupplyArc) (seen : List ℕ) → IsWalkOrder stages arcs seen → (k : ℕ) → k < length seen → (r : ℕ) × IsRootOf arcs seen k r

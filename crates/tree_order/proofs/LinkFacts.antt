@@ -1,12 +1,11 @@
 -- The arcs at a stage, and their other ends.
-use Rattle.std.proofs.Common.{ℕ, ◌≡◌, ◌≢◌, ◌+◌, ◌<◌, ◌==◌, Bool, true, false, cond, List, [], ◌∷◌, ◌++◌, length, get_or, set, sym, ap, ◌∙◌, inl, inr, ⊎_elim, arith}
-use Rattle.std.specs.Prelude.{Contains, ◌⊎◌}
+use Rattle.std.proofs.Common.{ℕ, ◌≡◌, ◌+◌, ◌<◌, ◌==◌, Bool, true, false, cond, List, [], ◌∷◌, ◌++◌, length, get_or, set, sym, ap, ◌∙◌, inl, inr, ⊎_elim, arith}
 use Rattle.std.proofs.lemmas.Bool.{cases_eq, eq-eqb, ne_eqb}
 use Rattle.service_model.specs.declared.stage.SupplyArc.{SupplyArc}
 use Rattle.service_model.specs.Net.{arc_in, no_arc}
-use Rattle.service_model.specs.Forests.{Joins, ArePickedFor}
+use Rattle.service_model.specs.Forests.{Joins}
 use Rattle.tree_order.specs.Links.{JoinsStages, Touches, other_end, HasLinks}
-use Rattle.tree_order.proofs.PickFacts.{TakesIn, lists_more, pushed_at, long_pushed}
+use Rattle.tree_order.proofs.PickFacts.{lists_more, pushed_at, long_pushed}
 
 -- the lists with one arc more, put in at both of its ends
 pub links_more : (stages : ℕ) (arcs : List SupplyArc) (n : ℕ) (lists one two : List (List ℕ)) → JoinsStages stages arcs → n < length arcs → HasLinks stages arcs n lists

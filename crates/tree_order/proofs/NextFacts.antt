@@ -7,7 +7,7 @@ use Rattle.std.proofs.lemmas.Map.Steps.{le-length_from_below}
 use Rattle.service_model.specs.declared.stage.SupplyArc.{SupplyArc}
 use Rattle.service_model.specs.Net.{arc_in, no_arc}
 use Rattle.service_model.specs.Forests.{Joins}
-use Rattle.tree_order.specs.Links.{JoinsStages, other_end}
+use Rattle.tree_order.specs.Links.{JoinsStages}
 use Rattle.tree_order.specs.Steps.{IsWay, IsFirstWay, IsNextRoot, IsNextSeen, ComesNextSeen}
 use Rattle.tree_order.proofs.LinkFacts.{other_is, joined_low}
 use Rattle.tree_order.proofs.SeenFacts.{few_new, among_from}
@@ -136,9 +136,9 @@ sorted_at stages arcs seen k m p q a b ends next less inside one two =
     (λ same. inr (
       same.0,
       ⊎_elim
-      (λ e. absurd (apart_at stages arcs seen k m next less inside (joined_once stages arcs a b (get_or seen p 0) (get_or seen q 0) (get_or seen k 0) (get_or seen m 0) ends one.arc one.joins two.joins e (ap (λ v. get_or seen v 0) same.0))))
-      (λ other. omega (arith, same.1, other))
-      (cases_eq a b),
+          (λ e. absurd (apart_at stages arcs seen k m next less inside (joined_once stages arcs a b (get_or seen p 0) (get_or seen q 0) (get_or seen k 0) (get_or seen m 0) ends one.arc one.joins two.joins e (ap (λ v. get_or seen v 0) same.0))))
+          (λ other. omega (arith, same.1, other))
+          (cases_eq a b),
     ))
     (first.first q b (get_or seen m 0) (way_at stages arcs seen k m q b next (omega (arith, less)) inside low two.arc two.joins)))
     (λ high. inl (omega (arith, high, one.earlier)))
@@ -150,12 +150,12 @@ walk_order stages arcs seen ends next each = record {
   once = λ k m less inside. apart_at stages arcs seen k m next less inside;
   each = each;
   lowest = λ k m root less inside.
-    let r = root_is stages arcs seen k next (omega (arith, less, inside)) root in
-    let le = r.lowest (get_or seen m 0) (next_low stages arcs (take m seen) (get_or seen m 0) ends (next m inside)) (new_at stages arcs seen k m next (omega (arith, less)) inside) in
-    let apart = apart_at stages arcs seen k m next less inside in
-    omega (arith, le, apart);
+      let r = root_is stages arcs seen k next (omega (arith, less, inside)) root in
+      let le = r.lowest (get_or seen m 0) (next_low stages arcs (take m seen) (get_or seen m 0) ends (next m inside)) (new_at stages arcs seen k m next (omega (arith, less)) inside) in
+      let apart = apart_at stages arcs seen k m next less inside in
+      omega (arith, le, apart);
   together = λ k m p root less inside low j.
-    let r = root_is stages arcs seen k next (omega (arith, less, inside)) root in
-    r.alone p j.0 (get_or seen m 0) (way_at stages arcs seen k m p j.0 next (omega (arith, less)) inside low j.1 j.2);
+      let r = root_is stages arcs seen k next (omega (arith, less, inside)) root in
+      r.alone p j.0 (get_or seen m 0) (way_at stages arcs seen k m p j.0 next (omega (arith, less)) inside low j.1 j.2);
   sorted = λ k m p q a b less inside one two. sorted_at stages arcs seen k m p q a b ends next less inside one two;
 }

@@ -1,12 +1,12 @@
 -- There is one forest of a network.
-use Rattle.std.proofs.Common.{ℕ, zero, suc, ◌≡◌, ◌≢◌, ◌<◌, ◌≤◌, List, [], ◌∷◌, length, get_or, reverse, refl, sym, ap, ◌∙◌, subst, inl, inr, ⊎_elim, arith}
-use Rattle.std.specs.Prelude.{AllPairs, Contains, ◌⊎◌}
+use Rattle.std.proofs.Common.{ℕ, zero, suc, ◌≡◌, ◌<◌, ◌≤◌, List, [], ◌∷◌, length, get_or, reverse, refl, sym, ap, ◌∙◌, subst, inl, inr, ⊎_elim, arith}
+use Rattle.std.specs.Prelude.{AllPairs, Contains}
 use Rattle.std.proofs.lemmas.Bool.{cases_lt}
-use Rattle.std.proofs.lemmas.List.{get_or_default, ext_get_or, reverse-reverse}
+use Rattle.std.proofs.lemmas.List.{ext_get_or, reverse-reverse}
 use Rattle.service_model.specs.declared.stage.SupplyArc.{SupplyArc}
 use Rattle.service_model.specs.Net.{Net, arc_in}
 use Rattle.service_model.specs.Faults.{IsNetwork}
-use Rattle.service_model.specs.Forests.{AreNeighbours, IsTie, IsSeenOrder, IsParentAt, IsWalk, IsChildOf, IsKept, ArePicked, ArePickedFor}
+use Rattle.service_model.specs.Forests.{IsSeenOrder, IsParentAt, IsWalk, IsChildOf, IsKept, ArePicked, ArePickedFor}
 use Rattle.tree_order.specs.declared.forest.Forest.{Forest}
 use Rattle.tree_order.specs.Forest.{IsForest}
 use Rattle.tree_order.specs.Links.{JoinsStages}

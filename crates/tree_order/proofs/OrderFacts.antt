@@ -1,13 +1,12 @@
 -- The order by neighbours is the order in which the walk sees the stages, and the other way round.
-use Rattle.std.proofs.Common.{ℕ, zero, suc, ◌≡◌, ◌≢◌, ◌<◌, ◌≤◌, List, length, get_or, take, sym, ◌∙◌, subst, inl, inr, ⊎_elim, arith}
-use Rattle.std.specs.Prelude.{All, AllPairs, Contains, ◌⊎◌}
+use Rattle.std.proofs.Common.{ℕ, zero, suc, ◌≢◌, ◌<◌, ◌≤◌, List, length, get_or, sym, ◌∙◌, subst, ⊎_elim, arith}
+use Rattle.std.specs.Prelude.{All, AllPairs}
 use Rattle.std.proofs.lemmas.Bool.{cases_eq, cases_lt}
 use Rattle.std.proofs.lemmas.List.{get_or_default}
 use Rattle.service_model.specs.declared.stage.SupplyArc.{SupplyArc}
-use Rattle.service_model.specs.Net.{arc_in}
-use Rattle.service_model.specs.Forests.{Joins, AreNeighbours, Chain, SameGroup, IsFirstOfGroup, IsTie, HasEachOnce, IsSeenOrder}
+use Rattle.service_model.specs.Forests.{AreNeighbours, Chain, SameGroup, IsFirstOfGroup, IsTie, IsSeenOrder}
 use Rattle.tree_order.specs.Links.{JoinsStages}
-use Rattle.tree_order.proofs.ArcFacts.{OneArc, IsFirstPlace, find_place}
+use Rattle.tree_order.proofs.ArcFacts.{OneArc, find_place}
 use Rattle.tree_order.proofs.PlaceFacts.{IsRootAt, IsChildAt, IsWalkOrder, find_child, place_of}
 use Rattle.tree_order.proofs.GroupFacts.{group_of_neighbours, group_step, neighbour_low, first_from_root, root_from_first, child_not_first, group_together}
 
@@ -57,10 +56,10 @@ seen_order stages arcs seen ends single order = record {
   together = λ k l m less less' inside group. group_together stages arcs seen ends order k l m less less' inside group;
   lowest = λ k m first less inside. order.lowest k m (root_from_first arcs seen k first) less inside;
   sorted = λ k m p q a b less inside not_first not_first' tie tie'.
-    let low : k < length seen = omega (arith, less, inside) in
-    let earlier = tie_earlier arcs seen k p a low tie (λ root. not_first (first_from_root stages arcs seen ends order k low root)) in
-    let earlier' = tie_earlier arcs seen m q b inside tie' (λ root. not_first' (first_from_root stages arcs seen ends order m inside root)) in
-    order.sorted k m p q a b less inside (child_from_tie arcs seen k p a single tie earlier) (child_from_tie arcs seen m q b single tie' earlier');
+      let low : k < length seen = omega (arith, less, inside) in
+      let earlier = tie_earlier arcs seen k p a low tie (λ root. not_first (first_from_root stages arcs seen ends order k low root)) in
+      let earlier' = tie_earlier arcs seen m q b inside tie' (λ root. not_first' (first_from_root stages arcs seen ends order m inside root)) in
+      order.sorted k m p q a b less inside (child_from_tie arcs seen k p a single tie earlier) (child_from_tie arcs seen m q b single tie' earlier');
 }
 
 -- the other way round
@@ -82,13 +81,17 @@ crossing stages arcs seen ends order k p before zero m after inside same = absur
 crossing stages arcs seen ends order k p before (suc n) m after inside (x, chain, joined) =
     let at = place_of seen x (order.each_once.each x (neighbour_low stages arcs x (get_or seen m 0) ends joined)) in
     ⊎_elim
-    (λ low. (at.0, m, record {
-      before = low;
-      after = after;
-      inside = inside;
-      joined = subst (λ v. AreNeighbours arcs v (get_or seen m 0)) (sym at.1.is) joined;
-      group = group_step arcs (get_or seen p 0) x (get_or seen m 0) (n, chain) joined;
-    }))
+    (λ low. (
+      at.0,
+      m,
+      record {
+        before = low;
+        after = after;
+        inside = inside;
+        joined = subst (λ v. AreNeighbours arcs v (get_or seen m 0)) (sym at.1.is) joined;
+        group = group_step arcs (get_or seen p 0) x (get_or seen m 0) (n, chain) joined;
+      },
+    ))
     (λ high. crossing stages arcs seen ends order k p before n at.0 high at.1.inside (subst (λ v. Chain arcs (get_or seen p 0) v n) (sym at.1.is) chain))
     (cases_lt at.0 k)
 
@@ -139,8 +142,8 @@ walk_back stages arcs seen ends order = record {
   each = order.each_once.each;
   lowest = λ k m root less inside. order.lowest k m (first_from_place stages arcs seen ends order k (omega (arith, less, inside)) root) less inside;
   together = λ k m p root less inside before joined.
-    let first = first_from_place stages arcs seen ends order k (omega (arith, less, inside)) root in
-    first p before (order.together p k m before less inside (group_of_neighbours arcs (get_or seen p 0) (get_or seen m 0) joined));
+      let first = first_from_place stages arcs seen ends order k (omega (arith, less, inside)) root in
+      first p before (order.together p k m before less inside (group_of_neighbours arcs (get_or seen p 0) (get_or seen m 0) joined));
   sorted = λ k m p q a b less inside child child'.
-    order.sorted k m p q a b less inside (child_not_first arcs seen k p a child) (child_not_first arcs seen m q b child') (tie_from_child arcs seen k p a (omega (arith, less, inside)) child) (tie_from_child arcs seen m q b inside child');
+      order.sorted k m p q a b less inside (child_not_first arcs seen k p a child) (child_not_first arcs seen m q b child') (tie_from_child arcs seen k p a (omega (arith, less, inside)) child) (tie_from_child arcs seen m q b inside child');
 }

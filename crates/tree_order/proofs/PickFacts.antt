@@ -22,9 +22,9 @@ picked_push P n xs old here = record {
   low = All-push (λ j. j < n + 1) xs n (λ k d inside. omega (arith, old.low k d inside)) (omega arith);
   only = λ j h. ⊎_elim (old.only j) (λ same. subst P same here) (Contains-push_cases xs n j h);
   all = λ j low p. ⊎_elim
-    (λ less. Contains-append_left xs (n ∷ []) j (old.all j less p))
-    (λ last. let is : n ≡ j = omega (arith, low, last) in subst (λ v. Contains (xs ++ n ∷ []) v) is (Contains-push xs n))
-    (cases_lt j n);
+      (λ less. Contains-append_left xs (n ∷ []) j (old.all j less p))
+      (λ last. let is : n ≡ j = omega (arith, low, last) in subst (λ v. Contains (xs ++ n ∷ []) v) is (Contains-push xs n))
+      (cases_lt j n);
 }
 
 pub picked_same : (P : ℕ → Type 0) (n : ℕ) (xs : List ℕ) → ArePicked P n xs → (P n → ⊥) → ArePicked P (n + 1) xs
@@ -33,9 +33,9 @@ picked_same P n xs old not_here = record {
   low = λ k d inside. omega (arith, old.low k d inside);
   only = old.only;
   all = λ j low p. ⊎_elim
-    (λ less. old.all j less p)
-    (λ last. let is : j ≡ n = omega (arith, low, last) in absurd (not_here (subst P is p)))
-    (cases_lt j n);
+      (λ less. old.all j less p)
+      (λ last. let is : j ≡ n = omega (arith, low, last) in absurd (not_here (subst P is p)))
+      (cases_lt j n);
 }
 
 pub picked_if : (P : ℕ → Type 0) (n : ℕ) (xs xs' : List ℕ) (wanted : Bool) → ArePicked P n xs → (wanted ≡ true → P n) → (wanted ≡ false → P n → ⊥) → PushesIf wanted n xs xs' → ArePicked P (n + 1) xs'
@@ -59,20 +59,22 @@ pub lists_more : (P : ℕ → ℕ → Type 0) (count n : ℕ) (lists lists' : Li
 lists_more P count n lists lists' old long each = record {
   long = long ∙ old.long;
   each = λ i low. ⊎_elim
-    (λ here. subst (λ (xs : List ℕ). ArePicked (P i) (n + 1) xs) (sym here.1) (picked_push (P i) n (get_or lists i []) (old.each i low) here.0))
-    (λ apart. subst (λ (xs : List ℕ). ArePicked (P i) (n + 1) xs) (sym apart.1) (picked_same (P i) n (get_or lists i []) (old.each i low) apart.0))
-    (each i low);
+      (λ here. subst (λ (xs : List ℕ). ArePicked (P i) (n + 1) xs) (sym here.1) (picked_push (P i) n (get_or lists i []) (old.each i low) here.0))
+      (λ apart. subst (λ (xs : List ℕ). ArePicked (P i) (n + 1) xs) (sym apart.1) (picked_same (P i) n (get_or lists i []) (old.each i low) apart.0))
+      (each i low);
 }
 
 -- a list after a number came to it, and every other list
 pub pushed_at : (lists lists' : List (List ℕ)) (at n : ℕ) → at < length lists → lists' ≡ set lists at (get_or lists at [] ++ n ∷ [])
     → (i : ℕ) → ((i ≡ at) × (get_or lists' i [] ≡ get_or lists i [] ++ n ∷ [])) ⊎ ((i ≢ at) × (get_or lists' i [] ≡ get_or lists i []))
 pushed_at lists lists' at n inside is i = ⊎_elim
-    (λ same. inl (same,
-    ap (λ v. get_or v i []) is
-    ∙ ap (λ v. get_or (set lists at (get_or lists at [] ++ n ∷ [])) v []) same
-    ∙ get_or-set_same lists at (get_or lists at [] ++ n ∷ []) [] inside
-    ∙ ap (λ v. get_or lists v [] ++ n ∷ []) (sym same)))
+    (λ same. inl (
+      same,
+      ap (λ v. get_or v i []) is
+          ∙ ap (λ v. get_or (set lists at (get_or lists at [] ++ n ∷ [])) v []) same
+          ∙ get_or-set_same lists at (get_or lists at [] ++ n ∷ []) [] inside
+          ∙ ap (λ v. get_or lists v [] ++ n ∷ []) (sym same),
+    ))
     (λ other. inr (other, ap (λ v. get_or v i []) is ∙ get_or-set_other lists at i (get_or lists at [] ++ n ∷ []) [] other))
     (cases_eq i at)
 

@@ -1,8 +1,8 @@
 -- Stages seen one after the other, each once.
-use Rattle.std.proofs.Common.{ℕ, zero, suc, ◌≡◌, ◌≢◌, ◌+◌, ◌<◌, ◌≤◌, Bool, true, false, not, cond, eqb, List, [], ◌∷◌, ◌++◌, length, get_or, set, take, replicate, sym, ap, ◌∙◌, subst, inl, inr, ⊎_elim, refl, arith}
-use Rattle.std.specs.Prelude.{Contains, count_by, ◌⊎◌}
+use Rattle.std.proofs.Common.{ℕ, zero, suc, ◌≡◌, ◌≢◌, ◌<◌, ◌≤◌, Bool, true, false, not, cond, eqb, List, [], ◌∷◌, ◌++◌, length, get_or, set, take, replicate, sym, ap, ◌∙◌, subst, ⊎_elim, refl, arith}
+use Rattle.std.specs.Prelude.{Contains, count_by}
 use Rattle.std.specs.List.{IsDistinct, list_any}
-use Rattle.std.proofs.lemmas.Bool.{cases_eq, cases_lt, cases_Bool, both_ways, eqb-true, ne_eqb}
+use Rattle.std.proofs.lemmas.Bool.{cases_eq, cases_lt, both_ways, eqb-true, ne_eqb}
 use Rattle.std.proofs.lemmas.Cmp.{nat_eq_equiv}
 use Rattle.std.proofs.lemmas.List.{length_push, length-set, length-replicate, get_or-replicate, get_or_past, get_or-set_same, get_or-set_other, get_or_push, get_or_append_left, get_or_default, take_at, take-append-le, get_or-take, length-take}
 use Rattle.std.proofs.lemmas.List.Elements.{Contains-push, Contains-append_left, Contains-push_cases, recursion_from_All}
@@ -34,25 +34,25 @@ marks_none n = record {
 pub marks_push : (marks : List Bool) (seen : List ℕ) (y : ℕ) → Marks marks seen → y < length marks → get_or marks y false ≡ false → Marks (set marks y true) (seen ++ y ∷ [])
 marks_push marks seen y old low off = record {
   there = λ q h. ⊎_elim
-    (λ was. omega (arith, old.there q was, length-set marks y true))
-    (λ same. omega (arith, low, same, length-set marks y true))
-    (Contains-push_cases seen y q h);
+      (λ was. omega (arith, old.there q was, length-set marks y true))
+      (λ same. omega (arith, low, same, length-set marks y true))
+      (Contains-push_cases seen y q h);
   marked = λ q h. ⊎_elim
-    (λ same. ap (λ n. get_or (set marks y true) n false) same ∙ get_or-set_same marks y true false low)
-    (λ other. ⊎_elim
-    (λ was. get_or-set_other marks y q true false other ∙ old.marked q was)
-    (λ same. absurd (other (sym same)))
-    (Contains-push_cases seen y q h))
-    (cases_eq q y);
+      (λ same. ap (λ n. get_or (set marks y true) n false) same ∙ get_or-set_same marks y true false low)
+      (λ other. ⊎_elim
+      (λ was. get_or-set_other marks y q true false other ∙ old.marked q was)
+      (λ same. absurd (other (sym same)))
+      (Contains-push_cases seen y q h))
+      (cases_eq q y);
   only = λ q is. ⊎_elim
-    (λ same. subst (λ x. Contains (seen ++ y ∷ []) x) (sym same) (Contains-push seen y))
-    (λ other. Contains-append_left seen (y ∷ []) q (old.only q (sym (get_or-set_other marks y q true false other) ∙ is)))
-    (cases_eq q y);
+      (λ same. subst (λ x. Contains (seen ++ y ∷ []) x) (sym same) (Contains-push seen y))
+      (λ other. Contains-append_left seen (y ∷ []) q (old.only q (sym (get_or-set_other marks y q true false other) ∙ is)))
+      (cases_eq q y);
   counts =
-    let e = sum_by-set (λ b. cond (not b) 1 0) marks y true false low in
-    let one : ℕ = 1 in
-    let here : cond (not (get_or marks y false)) 1 0 ≡ one = ap (λ b. cond (not b) 1 0) off in
-    omega (arith, e, here, old.counts, length_push seen y, length-set marks y true);
+      let e = sum_by-set (λ b. cond (not b) 1 0) marks y true false low in
+      let one : ℕ = 1 in
+      let here : cond (not (get_or marks y false)) 1 0 ≡ one = ap (λ b. cond (not b) 1 0) off in
+      omega (arith, e, here, old.counts, length_push seen y, length-set marks y true);
 }
 
 -- lists

@@ -1,6 +1,6 @@
 -- The walk, step by step.
-use Rattle.std.proofs.Common.{ℕ, ◌≡◌, ◌+◌, ◌<◌, ◌≤◌, Bool, true, false, List, [], ◌∷◌, ◌++◌, length, get_or, set, take, replicate, sym, ap, ◌∙◌, subst, inl, inr, ⊎_elim, refl, arith}
-use Rattle.std.specs.Prelude.{Contains, ◌⊎◌}
+use Rattle.std.proofs.Common.{ℕ, ◌≡◌, ◌+◌, ◌<◌, ◌≤◌, true, false, List, [], ◌∷◌, ◌++◌, length, get_or, set, take, replicate, sym, ap, ◌∙◌, subst, inl, inr, ⊎_elim, refl, arith}
+use Rattle.std.specs.Prelude.{Contains}
 use Rattle.std.proofs.lemmas.Bool.{cases_eq, cases_lt, cases_Bool, both_ways, MatchBool-at_true, MatchBool-at_false}
 use Rattle.std.proofs.lemmas.List.{length_push, length-set, length-replicate, get_or_append_left, get_or_default, get_or-set_same, get_or-set_other, take_all, take_at, take-take}
 use Rattle.std.proofs.lemmas.List.Elements.{Contains-push, Contains-append_left, Contains-get_or}
@@ -10,7 +10,7 @@ use Rattle.service_model.specs.Forests.{Joins, AreNeighbours, ArePicked}
 use Rattle.tree_order.specs.declared.links.Links.{Links}
 use Rattle.tree_order.specs.declared.walk.Walk.{Walk}
 use Rattle.tree_order.specs.Links.{JoinsStages, Touches, other_end}
-use Rattle.tree_order.specs.Steps.{IsWay, IsFirstWay, IsNextRoot, IsNextSeen, ComesNextSeen, IsParentAfter, HasParents}
+use Rattle.tree_order.specs.Steps.{IsWay, IsFirstWay, IsNextRoot, IsNextSeen, IsParentAfter, HasParents}
 use Rattle.tree_order.specs.Walks.{AreLinks, Sees, IsUnderWay, Grows}
 use Rattle.tree_order.proofs.LinkFacts.{other_joins, other_is, joins_touch, end_low}
 use Rattle.tree_order.proofs.SeenFacts.{marks_none, marks_push, each_push}
@@ -82,16 +82,16 @@ left_more : (stages : ℕ) (arcs : List SupplyArc) (links seen : List ℕ) (t at
 left_more stages arcs links seen t at p a z ends way old gone = (
   old.0,
   λ here.
-    let l = old.1 here in
-    ⊎_elim
-    (λ same.
-    let is : get_or links t 0 ≡ a = ap (λ v. get_or links v 0) same ∙ l.3 in
-    let j : Joins (arc_in arcs (get_or links t 0)) (get_or seen at 0) z =
-    subst (λ v. Joins (arc_in arcs v) (get_or seen at 0) z) (sym is) (subst (λ v. Joins (arc_in arcs a) (get_or seen v 0) z) here way.joins) in
-    let arc : get_or links t 0 < length arcs = omega (arith, is, way.arc) in
-    absurd (gone (other_is (arc_in arcs (get_or links t 0)) (get_or seen at 0) z (ends (get_or links t 0) no_arc arc).2 j)))
-    (λ other. (l.0, omega (arith, l.1, other), l.2, l.3))
-    (cases_eq t l.0),
+      let l = old.1 here in
+      ⊎_elim
+      (λ same.
+      let is : get_or links t 0 ≡ a = ap (λ v. get_or links v 0) same ∙ l.3 in
+      let j : Joins (arc_in arcs (get_or links t 0)) (get_or seen at 0) z =
+      subst (λ v. Joins (arc_in arcs v) (get_or seen at 0) z) (sym is) (subst (λ v. Joins (arc_in arcs a) (get_or seen v 0) z) here way.joins) in
+      let arc : get_or links t 0 < length arcs = omega (arith, is, way.arc) in
+      absurd (gone (other_is (arc_in arcs (get_or links t 0)) (get_or seen at 0) z (ends (get_or links t 0) no_arc arc).2 j)))
+      (λ other. (l.0, omega (arith, l.1, other), l.2, l.3))
+      (cases_eq t l.0),
 )
 
 -- the way by link t is the first
@@ -102,28 +102,34 @@ first_way arcs links seen t at are inside low left new =
     record {
       way = record { place = low; arc = touch.0; joins = other_joins (arc_in arcs (get_or links t 0)) (get_or seen at 0) touch.1; new = new };
       first = λ q b z way.
-        let l = left q b z way in
-        ⊎_elim
-        (λ same. inr (
-          same,
-          (
-            let s = l.1 (sym same) in
-            ⊎_elim
-            (λ e. omega (arith, ap (λ v. get_or links v 0) e ∙ s.3))
-            (λ other. omega (arith, are.rising t s.0 0 (omega (arith, s.1, other)) s.2, s.3))
-            (cases_eq t s.0)
-          ),
-        ))
-        (λ other. inl (omega (arith, l.0, other)))
-        (cases_eq at q);
+          let l = left q b z way in
+          ⊎_elim
+          (λ same. inr (
+            same,
+            (
+                let s = l.1 (sym same) in
+                ⊎_elim
+                (λ e. omega (arith, ap (λ v. get_or links v 0) e ∙ s.3))
+                (λ other. omega (arith, are.rising t s.0 0 (omega (arith, s.1, other)) s.2, s.3))
+                (cases_eq t s.0)
+                ),
+          ))
+          (λ other. inl (omega (arith, l.0, other)))
+          (cases_eq at q);
     }
 
 -- the parent is the stage at place `at`: no earlier place has a way left
 first_parent : (arcs : List SupplyArc) (links seen : List ℕ) (t at y : ℕ) → at < length seen → IsLeft arcs seen links t at → (Contains seen y → ⊥) → AreNeighbours arcs (get_or seen at 0) y
     → IsParentAfter arcs seen y (get_or seen at 0)
 first_parent arcs links seen t at y low left new joined =
-    inr (at, low, refl, joined, λ q less j.
-    omega (arith, less, (left q j.0 y (record { place = omega (arith, less, low); arc = j.1; joins = j.2; new = new })).0))
+    inr (
+      at,
+      low,
+      refl,
+      joined,
+      λ q less j.
+          omega (arith, less, (left q j.0 y (record { place = omega (arith, less, low); arc = j.1; joins = j.2; new = new })).0),
+    )
 
 within_more : (stages : ℕ) (arcs : List SupplyArc) (links : List ℕ) (t at : ℕ) (w w' : Walk) → JoinsStages stages arcs → TheLinks arcs links (get_or w.seen at 0) → t < length links → at < length w.seen
     → Within stages arcs links t at w → Sees (next_stage arcs links w.seen t at) (get_or w.seen at 0) w w' → Within stages arcs links (t + 1) at w'
@@ -147,11 +153,11 @@ within_more stages arcs links t at w w' ends are inside low old step =
     let rest : Within stages arcs links (t + 1) at (seen_after y x w) = record {
       under_way = under_way_push stages arcs w y x old.under_way stage off (inr (at, get_or links t 0, first)) (first_parent arcs links w.seen t at y low old.left new (get_or links t 0, touch.0, joins));
       left = λ p a z way. ⊎_elim
-        (λ earlier.
-        let was = way_back arcs w.seen y p a z way earlier in
-        left_more stages arcs links w.seen t at p a z ends was (old.left p a z was) (λ e. way.new (subst (λ v. Contains (w.seen ++ y ∷ []) v) (sym e) (Contains-push w.seen y))))
-        (λ later. (omega (arith, later, low), λ here. absurd (omega (arith, later, low, here))))
-        (cases_lt p (length w.seen));
+          (λ earlier.
+          let was = way_back arcs w.seen y p a z way earlier in
+          left_more stages arcs links w.seen t at p a z ends was (old.left p a z was) (λ e. way.new (subst (λ v. Contains (w.seen ++ y ∷ []) v) (sym e) (Contains-push w.seen y))))
+          (λ later. (omega (arith, later, low), λ here. absurd (omega (arith, later, low, here))))
+          (cases_lt p (length w.seen));
     } in
     subst (λ (v : Walk). Within stages arcs links (t + 1) at v) (sym (MatchBool-at_false _ _ off step)) rest)
     (cases_Bool (get_or w.marks y false))
@@ -172,8 +178,8 @@ visit_start stages arcs links at w are under_way left = record {
   left = λ p a z way. (
     left p a z way,
     λ here.
-      let l = are.all a way.arc (joins_touch (arc_in arcs a) (get_or w.seen at 0) z (subst (λ v. Joins (arc_in arcs a) (get_or w.seen v 0) z) here way.joins)) in
-      (l.0, omega arith, l.1, get_or_default links l.0 0 a l.1 ∙ l.2),
+        let l = are.all a way.arc (joins_touch (arc_in arcs a) (get_or w.seen at 0) z (subst (λ v. Joins (arc_in arcs a) (get_or w.seen v 0) z) here way.joins)) in
+        (l.0, omega arith, l.1, get_or_default links l.0 0 a l.1 ∙ l.2),
   );
 }
 
@@ -236,9 +242,9 @@ root_more stages arcs at root w w' low end old left lower step = ⊎_elim
     let rest : RootSeen stages arcs at root (seen_after root root w) = record {
       under_way = under_way_push stages arcs w root root old low off (inl next) (inl (refl, λ q less j. alone q j.0 root (record { place = less; arc = j.1; joins = j.2; new = new })));
       left = λ p a z way. ⊎_elim
-        (λ earlier. absurd (alone p a z (way_back arcs w.seen root p a z way earlier)))
-        (λ later. omega (arith, later, end))
-        (cases_lt p (length w.seen));
+          (λ earlier. absurd (alone p a z (way_back arcs w.seen root p a z way earlier)))
+          (λ later. omega (arith, later, end))
+          (cases_lt p (length w.seen));
       within = omega (arith, end, length_push w.seen root);
       there = Contains-push w.seen root;
     } in

@@ -36,18 +36,18 @@ root_next stages arcs seen ends order k inside root = record {
   stage = order.stage k inside;
   new = new_there stages arcs seen order k inside;
   alone = λ q b z way.
-    let t = way_to stages arcs seen ends order k q b z inside way in
-    let near : AreNeighbours arcs (get_or seen q 0) (get_or seen t.0 0) = (b, t.1.arc, t.1.joins) in
-    ⊎_elim
-    (λ same. root q t.1.before (subst (λ v. AreNeighbours arcs (get_or seen q 0) (get_or seen v 0)) (sym same) near))
-    (λ other. order.together k t.0 q root (omega (arith, t.1.after, other)) t.1.at.inside t.1.before near)
-    (cases_eq k t.0);
+      let t = way_to stages arcs seen ends order k q b z inside way in
+      let near : AreNeighbours arcs (get_or seen q 0) (get_or seen t.0 0) = (b, t.1.arc, t.1.joins) in
+      ⊎_elim
+      (λ same. root q t.1.before (subst (λ v. AreNeighbours arcs (get_or seen q 0) (get_or seen v 0)) (sym same) near))
+      (λ other. order.together k t.0 q root (omega (arith, t.1.after, other)) t.1.at.inside t.1.before near)
+      (cases_eq k t.0);
   lowest = λ z stage fresh.
-    let f = later_place seen k z (order.each z stage) inside fresh in
-    ⊎_elim
-    (λ same. omega (arith, ap (λ v. get_or seen v 0) same, f.2.is))
-    (λ other. omega (arith, order.lowest k f.0 root (omega (arith, f.1, other)) f.2.inside, f.2.is))
-    (cases_eq k f.0);
+      let f = later_place seen k z (order.each z stage) inside fresh in
+      ⊎_elim
+      (λ same. omega (arith, ap (λ v. get_or seen v 0) same, f.2.is))
+      (λ other. omega (arith, order.lowest k f.0 root (omega (arith, f.1, other)) f.2.inside, f.2.is))
+      (cases_eq k f.0);
 }
 
 -- no way from the first k places comes before that of the child at place k
@@ -87,8 +87,8 @@ child_next stages arcs seen ends order k p a inside child = record {
     new = new_there stages arcs seen order k inside;
   };
   first = λ q b z way.
-    let t = way_to stages arcs seen ends order k q b z inside way in
-    way_after stages arcs seen order k p a q b t.0 child t.1.before t.1.after t.1.at.inside t.1.arc t.1.joins;
+      let t = way_to stages arcs seen ends order k q b z inside way in
+      way_after stages arcs seen order k p a q b t.0 child t.1.before t.1.after t.1.at.inside t.1.arc t.1.joins;
 }
 
 pub steps_from : (stages : ℕ) (arcs : List SupplyArc) (seen : List ℕ) → JoinsStages stages arcs → IsWalkOrder stages arcs seen → ComesNextSeen stages arcs seen

@@ -1,11 +1,11 @@
 -- What the walk leaves: an order and parents.
 use Rattle.std.proofs.Common.{ℕ, ◌≡◌, ◌<◌, List, length, get_or, take, reverse, sym, ap, ◌∙◌, subst, inl, inr, arith}
-use Rattle.std.specs.Prelude.{All, ◌⊎◌}
+use Rattle.std.specs.Prelude.{All}
 use Rattle.std.proofs.lemmas.List.{reverse-reverse, get_or_default, get_or-take, length-take}
 use Rattle.service_model.specs.declared.stage.SupplyArc.{SupplyArc}
 use Rattle.service_model.specs.Net.{Net, arc_in}
 use Rattle.service_model.specs.Faults.{IsNetwork}
-use Rattle.service_model.specs.Forests.{AreNeighbours, IsTie, IsSeenOrder, IsParentAt, IsWalk, IsChildOf, IsKept, ArePicked, ArePickedFor}
+use Rattle.service_model.specs.Forests.{AreNeighbours, IsSeenOrder, IsParentAt, IsWalk, IsChildOf, IsKept, ArePicked, ArePickedFor}
 use Rattle.tree_order.specs.declared.forest.Forest.{Forest}
 use Rattle.tree_order.specs.declared.walk.Walk.{Walk}
 use Rattle.tree_order.specs.Forest.{IsForest}
@@ -21,19 +21,25 @@ use Rattle.tree_order.proofs.OrderFacts.{seen_order}
 parent_at : (stages : ℕ) (arcs : List SupplyArc) (seen : List ℕ) (k x : ℕ) → JoinsStages stages arcs → IsWalkOrder stages arcs seen → k < length seen → IsParentAfter arcs (take k seen) (get_or seen k 0) x → IsParentAt arcs seen k x
 parent_at stages arcs seen k x ends order inside (inl root) = inl (
   first_from_root stages arcs seen ends order k inside (λ p before joined.
-  root.1 p (omega (arith, before, inside, length-take k seen)) (subst (λ v. AreNeighbours arcs v (get_or seen k 0)) (sym (get_or-take k seen p 0 before)) joined)),
+      root.1 p (omega (arith, before, inside, length-take k seen)) (subst (λ v. AreNeighbours arcs v (get_or seen k 0)) (sym (get_or-take k seen p 0 before)) joined)),
   root.0,
 )
 parent_at stages arcs seen k x ends order inside (inr (p, low, is, joined, first)) =
     let before : p < k = omega (arith, low, length-take k seen) in
     let here : x ≡ get_or seen p 0 = is ∙ get_or-take k seen p 0 before in
     let near : AreNeighbours arcs (get_or seen p 0) (get_or seen k 0) = subst (λ v. AreNeighbours arcs v (get_or seen k 0)) here joined in
-    inr (p, near.0, record {
-      place = omega (arith, before, inside);
-      arc = near.1;
-      joins = near.2;
-      first = λ q less joined. first q less (subst (λ v. AreNeighbours arcs v (get_or seen k 0)) (sym (get_or-take k seen q 0 (omega (arith, less, before)))) joined);
-    }, before, here)
+    inr (
+      p,
+      near.0,
+      record {
+        place = omega (arith, before, inside);
+        arc = near.1;
+        joins = near.2;
+        first = λ q less joined. first q less (subst (λ v. AreNeighbours arcs v (get_or seen k 0)) (sym (get_or-take k seen q 0 (omega (arith, less, before)))) joined);
+      },
+      before,
+      here,
+    )
 
 -- a walk over all stages sees them in the order that is wanted
 pub walk_of : (n : Net) → IsNetwork n → (w : Walk) → IsWholeWalk (length n.stages) n.arcs w → IsWalk (length n.stages) n.arcs w.seen w.parent

@@ -13,6 +13,10 @@ pub record IsForest (stages : ℕ) (arcs : List SupplyArc) (f : Forest) : Type 0
   pub children : ArePickedFor (IsChildOf f.parent) stages stages f.children
   pub dropped : ArePicked (λ a. ¬ IsKept f.parent (arc_in arcs a)) (length arcs) f.dropped
 
+-- no other is the forest
+abbrev pub IsOnlyForest : ℕ → List SupplyArc → Forest → Type 0
+IsOnlyForest stages arcs f = (g : Forest) → IsForest stages arcs g → g ≡ f
+
 -- no stage stands after its parent
 abbrev pub ChildrenFirst : Forest → Type 0
 ChildrenFirst f =

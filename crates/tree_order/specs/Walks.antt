@@ -1,5 +1,5 @@
 -- A walk on its way.
-use Rattle.std.specs.Prelude.{◌≡◌, ℕ, ◌<◌, ◌≤◌, ◌++◌, ◌∷◌, [], false, true, List, length, slice_index, slice_index_or, slice_set, take, Contains, MatchBool}
+use Rattle.std.specs.Prelude.{◌≡◌, ℕ, ◌<◌, ◌≤◌, ◌++◌, ◌∷◌, [], false, true, List, length, slice_index_or, slice_set, take, Contains, MatchBool}
 use Rattle.service_model.specs.declared.stage.SupplyArc.{SupplyArc}
 use Rattle.service_model.specs.Marks.{Marks}
 use Rattle.tree_order.specs.declared.links.Links.{Links}

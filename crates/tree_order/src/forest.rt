@@ -1,5 +1,7 @@
 // The forest of a network, which contracts see as it is.
-ghost use Rattle.std.specs.Prelude.{length, IfOk};
+ghost use Rattle.std.specs.Prelude.{◌≡◌, [], length, All, IfOk};
+ghost use Rattle.service_model.specs.Forests.{IsKept};
+ghost use Rattle.tree_order.specs.Forest.{IsForest, IsOnlyForest, ChildrenFirst, HasOneSide};
 
 use crate::links::Links;
 use crate::picks::{children_of, dropped_of, reversed};
@@ -20,15 +22,12 @@ pub struct Forest {
     pub dropped: List<u32>,
 }
 
-ghost use Rattle.std.specs.Prelude.{◌≡◌, [], All};
-ghost use Rattle.service_model.specs.Forests.{IsKept};
-ghost use Rattle.tree_order.specs.Forest.{IsForest, ChildrenFirst, HasOneSide};
-
 /// The forest of the walk over the stages of a network.
 pub fn forest_of(alloc: Global, network: &Network) -> Result<Forest, NoMemory>
     ensures forest { IfOk result (IsForest (length network.now.stages) network.now.arcs) }
+    ensures only { IfOk result (IsOnlyForest (length network.now.stages) network.now.arcs) }
 
-    // What follows: children before parents, how they are joined, and when no arc is left out.
+    // What follows of a forest, for callers.
     ensures children_first { IfOk result ChildrenFirst }
     ensures one_side { IfOk result (HasOneSide network.now.arcs) }
     ensures all_kept { IfOk result (λ forest. forest.dropped ≡ [] → All (IsKept forest.parent) network.now.arcs) }

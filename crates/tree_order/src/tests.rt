@@ -88,7 +88,9 @@ fn fullest(alloc: Global) -> Result<Network, NewFault> {
 fn the_largest_network_has_a_forest(rt: HostRuntime) -> Result<(), Fail> {
     let network = fullest(rt.alloc())?;
     let forest = forest_of(rt.alloc(), &network)?;
-    assert_eq!(rt; forest.order.len(), 1_000);
     assert_eq!(rt; network.arcs().len(), 5_000);
+    assert_eq!(rt; forest.order.len(), 1_000);
+    // 833 stages lead to six each and one to two, so the stages up to 838 are one tree.
+    assert_eq!(rt; forest.dropped.len(), 5_000 - 838);
     Ok(())
 }

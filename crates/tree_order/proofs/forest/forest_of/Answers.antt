@@ -7,6 +7,7 @@ use Rattle.service_model.specs.Forests.{IsChildOf, IsKept, ArePicked, ArePickedF
 use Rattle.tree_order.specs.declared.forest.Forest.{Forest}
 use Rattle.tree_order.specs.Walks.{IsWholeWalk}
 use Rattle.tree_order.proofs.ForestLaws.{children_first, one_side, all_kept}
+use Rattle.tree_order.proofs.OneForest.{one_forest}
 use Rattle.tree_order.proofs.WalkFacts.{walk_of, parents_low, forest_from}
 use Rattle.tree_order.proofs.forest.forest_of.Goals as goal
 
@@ -35,6 +36,7 @@ returns c =
     let forest = forest_from (length n.stages) n.arcs w.seen w.parent f (walk_of n c.arcs.ensures.valid w whole) refl (c.in_ok-order.ensures ∙ ap reverse c.as_slice-3.ensures) children dropped in
     record {
       forest = forest;
+      only = λ g other. one_forest n g f c.arcs.ensures.valid other forest;
       children_first = children_first (length n.stages) n.arcs f forest;
       one_side = one_side n f c.arcs.ensures.valid forest;
       all_kept = all_kept (length n.stages) n.arcs f forest;

@@ -1,5 +1,5 @@
 -- The next arc is put in at both of its ends.
-use Rattle.std.proofs.Common.{arith, length, subst}
+use Rattle.std.proofs.Common.{arith, subst}
 use Rattle.tree_order.specs.Links.{HasLinks}
 use Rattle.tree_order.proofs.LinkFacts.{links_more}
 use Rattle.tree_order.proofs.links.link_lists.Goals as goal

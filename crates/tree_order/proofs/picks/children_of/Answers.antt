@@ -1,5 +1,5 @@
 -- The next stage is put among its parent's children.
-use Rattle.std.proofs.Common.{arith, length}
+use Rattle.std.proofs.Common.{length}
 use Rattle.tree_order.proofs.PickFacts.{children_more}
 use Rattle.tree_order.proofs.picks.children_of.Goals as goal
 

@@ -1,5 +1,5 @@
 -- A root is seen, unless it was, and then what it leads to.
-use Rattle.std.proofs.Common.{◌≡◌, ◌<◌, ℕ, length, subst, ⊎_elim, arith}
+use Rattle.std.proofs.Common.{◌≡◌, length, subst, ⊎_elim, arith}
 use Rattle.std.specs.Prelude.{Contains}
 use Rattle.std.proofs.lemmas.Bool.{cases_lt}
 use Rattle.tree_order.proofs.SeenFacts.{stays}
@@ -23,9 +23,9 @@ roots-preserved c =
     record {
       between = c.in_ok-spread.ensures.between;
       lower = λ j low. ⊎_elim
-        (λ earlier. stays c.roots.walk.seen c.spread.new.self.seen j all.front all.longer (c.roots.invariant.lower j earlier))
-        (λ here.
-        let is : c.roots.root ≡ j = omega (arith, low, here) in
-        subst (λ n. Contains c.spread.new.self.seen n) is (stays c.see.new.self.seen c.spread.new.self.seen c.roots.root more.front more.longer root.there))
-        (cases_lt j c.roots.root);
+          (λ earlier. stays c.roots.walk.seen c.spread.new.self.seen j all.front all.longer (c.roots.invariant.lower j earlier))
+          (λ here.
+          let is : c.roots.root ≡ j = omega (arith, low, here) in
+          subst (λ n. Contains c.spread.new.self.seen n) is (stays c.see.new.self.seen c.spread.new.self.seen c.roots.root more.front more.longer root.there))
+          (cases_lt j c.roots.root);
     }

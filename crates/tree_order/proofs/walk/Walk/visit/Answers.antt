@@ -1,5 +1,5 @@
 -- The links are those of the stage at the place; each leads to a stage that is seen now or was before.
-use Rattle.std.proofs.Common.{◌≡◌, ◌∙◌, ◌<◌, ℕ, length, get_or, subst, sym, arith}
+use Rattle.std.proofs.Common.{◌≡◌, ◌∙◌, ◌<◌, length, get_or, subst, sym, arith}
 use Rattle.tree_order.proofs.SeenFacts.{same_at}
 use Rattle.tree_order.proofs.StepFacts.{TheLinks, the_links, link_low, within_next, visit_start, visit_end, grows_not, grows_trans, grows_sees}
 use Rattle.tree_order.proofs.walk.Walk.visit.Goals as goal
