@@ -35,9 +35,11 @@ pub record IsTightAt (n : Net) (tables : List Table) (k : ℕ) : Type 0 where
   pub shaped : IsShaped n tables k (table_at tables k)
   pub tight : Tight n tables (table_at tables k)
 
+-- table i and those below it are sound
 abbrev pub AreSoundBelow : Net → List Table → ℕ → Type 0
 AreSoundBelow n tables i = AllByRecursion (IsSoundAt n tables) (below tables i)
 
+-- table i and those below it are tight
 abbrev pub AreTightBelow : Net → List Table → ℕ → Type 0
 AreTightBelow n tables i = AllByRecursion (IsTightAt n tables) (below tables i)
 

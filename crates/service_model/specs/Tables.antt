@@ -12,6 +12,7 @@ use Rattle.service_model.specs.Plans.{charge}
 abbrev pub no_table : Table
 no_table = record { stage = 0; kind = Root; least = 0; most = 0; floor = 0; children = []; values = [] }
 
+-- table i of a list
 abbrev pub table_at : List Table → ℕ → Table
 table_at tables i = slice_index_or tables i no_table
 
@@ -57,6 +58,7 @@ child_least Down transit least floor values inbound outbound = least_of (take (i
 child_least Up transit least floor values inbound outbound = least_of (drop (outbound + transit - floor) values)
 child_least Root transit least floor values inbound outbound = INF
 
+-- which of the table's values stands for two times
 abbrev pub place_of : Table → ℕ → ℕ → ℕ
 place_of t inbound outbound = place t.kind t.least t.floor inbound outbound
 
