@@ -4,5 +4,6 @@ mod TableFacts
 mod MadeFacts
 mod WholeFacts
 mod TraceFacts
+mod RootFacts
 mod BoundFacts
 pub mod RangeLaws

@@ -2,3 +2,4 @@ pub mod Kinds
 pub mod StageTables
 pub mod Nodes
 pub mod Laws
+pub mod Relaxations

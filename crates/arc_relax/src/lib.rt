@@ -3,4 +3,8 @@
 
 mod kinds;
 mod node;
+mod relax;
+mod roots;
 mod tables;
+
+pub use relax::Relaxed;
