@@ -4,11 +4,14 @@
 mod filled;
 mod fills;
 mod local;
+mod places;
 mod sums;
 mod times;
+mod traces;
 mod values;
 mod wanted;
 
 pub use filled::Filled;
 pub use fills::fill;
+pub use traces::trace;
 pub use wanted::{ChildList, Wanted};

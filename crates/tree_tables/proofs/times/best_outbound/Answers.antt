@@ -1,5 +1,5 @@
 -- One outbound time more.
-use Rattle.std.proofs.Common.{ℕ, ◌+◌, subst, sym}
+use Rattle.std.proofs.Common.{◌+◌, subst, sym}
 use Rattle.tree_tables.specs.Sums.{local_at}
 use Rattle.tree_tables.proofs.TimeFacts.{IsBestRow, row_taken, row_kept}
 use Rattle.tree_tables.proofs.times.best_outbound.Goals as goal

@@ -1,7 +1,7 @@
 -- The least local sum of the window is the value.
 use Rattle.std.proofs.Common.{List, ℕ, get_or, length, ap, sym, ◌∙◌, subst, arith}
 use Rattle.service_model.specs.declared.stage.Stage.{Stage}
-use Rattle.service_model.specs.Net.{stage_at, no_stage}
+use Rattle.service_model.specs.Net.{no_stage}
 use Rattle.tree_tables.specs.Sums.{AreDownSums, AreUpSums}
 use Rattle.tree_tables.proofs.TimeFacts.{attained}
 use Rattle.tree_tables.proofs.times.times_at.Goals as goal
