@@ -6,4 +6,5 @@ mod WholeFacts
 mod TraceFacts
 mod RootFacts
 mod BoundFacts
+mod RelaxedFacts
 pub mod RangeLaws

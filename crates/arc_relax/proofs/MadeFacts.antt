@@ -3,14 +3,14 @@ use Rattle.std.proofs.Common.{◌≡◌, ◌≢◌, ℕ, zero, suc, ◌+◌, ◌
 use Rattle.std.specs.Prelude.{All, Contains, ◌⊎◌}
 use Rattle.std.specs.List.{AllByRecursion}
 use Rattle.std.proofs.lemmas.Bool.{cases_lt}
-use Rattle.std.proofs.lemmas.List.{append-nil, length_push, length-set, get_or-set_same, get_or-set_other, get_or-map, get_or_default}
+use Rattle.std.proofs.lemmas.List.{append-nil, get_or_append_left, length_push, length-set, get_or-set_same, get_or-set_other, get_or-map, get_or_default}
 use Rattle.std.proofs.lemmas.List.Elements.{All-map, All-from_recursion}
 use Rattle.service_model.specs.declared.range.Range.{Range}
 use Rattle.service_model.specs.declared.table.Kind.{Kind}
 use Rattle.service_model.specs.declared.table.Table.{Table}
 use Rattle.service_model.specs.Net.{Net}
 use Rattle.service_model.specs.Ranges.{HasIntervals, floor_of}
-use Rattle.service_model.specs.Tables.{table_at, IsChild, IsSized}
+use Rattle.service_model.specs.Tables.{table_at, no_table, IsChild, IsSized}
 use Rattle.service_model.specs.Nodes.{IsTightAt}
 use Rattle.service_model.specs.Forests.{IsChildOf}
 use Rattle.service_model.specs.Relaxed.{IsKindOf, IsTableOf}
@@ -19,8 +19,8 @@ use Rattle.tree_order.specs.Forest.{IsForest}
 use Rattle.tree_order.proofs.ForestLaws.{order_each, each_long, children_first}
 use Rattle.tree_tables.specs.declared.wanted.Wanted.{Wanted}
 use Rattle.tree_tables.specs.Fills.{AreChildren, IsWanted, IsAsWanted}
+use Rattle.tree_tables.proofs.FillLaws.{tight_at_grown}
 use Rattle.table_pool.specs.Pools.{IsPool, IsFoundOrFilled}
-use Rattle.table_pool.proofs.GrownFacts.{grown_at, tight_at_grown}
 use Rattle.arc_relax.specs.StageTables.{HasTable, HaveTables, IsWantedOf, IsLonger, AreMade, IsGrown}
 use Rattle.arc_relax.proofs.ListFacts.{each_member}
 use Rattle.arc_relax.proofs.TableFacts.{child_stage, child_own, kind_child}
@@ -111,7 +111,7 @@ table_kept : (n : Net) (r : Range) (f : Forest) (new more : List Table) (numbers
     → ((c : ℕ) → Contains (get_or f.children i []) c → c ≢ j) → HasTable n r f (new ++ more) (set numbers j id) i
 table_kept n r f new more numbers j id i has other others =
     let number : get_or (set numbers j id) i 0 ≡ get_or numbers i 0 = get_or-set_other numbers j i id 0 other in
-    let table : table_at (new ++ more) (get_or numbers i 0) ≡ table_at new (get_or numbers i 0) = grown_at new more (get_or numbers i 0) has.tight.there in
+    let table : table_at (new ++ more) (get_or numbers i 0) ≡ table_at new (get_or numbers i 0) = get_or_append_left new more no_table (get_or numbers i 0) has.tight.there in
     let own = has.own in
     record {
       tight = subst (IsTightAt n (new ++ more)) (sym number) (tight_at_grown n new more (get_or numbers i 0) has.tight);

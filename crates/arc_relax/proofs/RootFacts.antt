@@ -8,17 +8,18 @@ use Rattle.std.proofs.lemmas.List.Elements.{All-from_recursion, All-get_or, filt
 use Rattle.std.proofs.lemmas.List.Sums.{sum_by-append, sum_by-cons}
 use Rattle.service_model.specs.declared.limits.TheConstants.{INF}
 use Rattle.service_model.specs.declared.plan.Plan.{Plan}
+use Rattle.service_model.specs.declared.table.Kind.{Kind}
 use Rattle.service_model.specs.declared.table.Kind.TheVariants.{Root}
 use Rattle.service_model.specs.declared.table.Table.{Table}
 use Rattle.service_model.specs.Net.{Net}
 use Rattle.service_model.specs.Plans.{HasTimes, stage_cost}
-use Rattle.service_model.specs.Tables.{table_at}
+use Rattle.service_model.specs.Tables.{table_at, width}
 use Rattle.service_model.specs.Nodes.{below, below_roots, bound_of, IsOnce, IsTightAt, AreSoundBelow, AreTightBelow}
 use Rattle.gsm_laws.specs.Traces.{IsAbsent, SameAt, IsTraced, IsTracedNode, IsTraceOf, IsWhole, cost_at}
 use Rattle.gsm_laws.proofs.ElementFacts.{each, all_append, all_both}
 use Rattle.gsm_laws.proofs.BelowFacts.{itself, sound_below}
 use Rattle.gsm_laws.proofs.AgreeFacts.{Apart, apart_append, apart_from_once, once_from_apart, same_sum, same_traced}
-use Rattle.gsm_laws.proofs.WholeFacts.{Roots, root_width, whole_cost}
+use Rattle.gsm_laws.proofs.WholeFacts.{Roots, whole_cost}
 use Rattle.arc_relax.specs.Relaxations.{IsTracedPlan}
 
 -- the numbers of the roots among one stage more
@@ -138,11 +139,16 @@ roots_there n tables ks tight =
     All-from_recursion (λ k. k < length tables) ks
     (each (AreTightBelow n tables) (λ k. k < length tables) (λ k at. (itself (IsTightAt n tables) tables (suc k) k (omega arith) at).there) ks tight)
 
+one_value : (n : Net) (t : Table) → t.kind ≡ Root → length t.values ≡ width t.kind n.horizon t.least t.most t.floor → 0 < length t.values
+one_value n t root long =
+    let one : width t.kind n.horizon t.least t.most t.floor ≡ 1 = ap (λ (kind : Kind). width kind n.horizon t.least t.most t.floor) root in
+    omega (arith, one, long)
+
 pub roots_some : (n : Net) (tables : List Table) (ks : List ℕ) → AllByRecursion (AreTightBelow n tables) ks → IsWhole n tables ks → All (λ k. 0 < length (table_at tables k).values) ks
 roots_some n tables ks tight whole i d within =
     let k = get_or ks i d in
     let here = itself (IsTightAt n tables) tables (suc k) k (omega arith) (All-from_recursion (AreTightBelow n tables) ks tight i d within) in
-    root_width n (table_at tables k) (whole.kinds i d within) here.shaped.sized.values
+    one_value n (table_at tables k) (whole.kinds i d within) here.shaped.sized.values
 
 pub roots_capped : (n : Net) (tables : List Table) (ks : List ℕ) → AllByRecursion (AreTightBelow n tables) ks → IsWhole n tables ks → All (λ k. get_or (table_at tables k).values 0 0 ≤ INF) ks
 roots_capped n tables ks tight whole i d within =

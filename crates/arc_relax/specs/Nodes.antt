@@ -2,6 +2,7 @@
 use Rattle.std.specs.Prelude.{◌≡◌, length}
 use Rattle.service_model.specs.declared.range.Range.{Range}
 use Rattle.service_model.specs.Net.{Net}
+use Rattle.service_model.specs.Faults.{IsNetwork}
 use Rattle.service_model.specs.Ranges.{HasIntervals, AreFloors}
 use Rattle.tree_order.specs.declared.forest.Forest.{Forest}
 use Rattle.tree_order.specs.Forest.{IsForest}
@@ -10,6 +11,7 @@ use Rattle.arc_relax.specs.Kinds.{AreKinds}
 
 -- the node is a range over the forest of its network, with the kinds and the floors of all stages
 pub record IsNode (x : Node) : Type 0 where
+  pub network : IsNetwork x.network.now
   pub forest : IsForest (length x.network.now.stages) x.network.now.arcs x.forest.now
   pub range : HasIntervals x.network.now x.range.now
   pub kinds : AreKinds x.network.now.arcs x.forest.now.parent x.kinds

@@ -1,5 +1,5 @@
 -- What relaxing a range gives.
-use Rattle.std.specs.Prelude.{◌≡◌, ℕ, ◌+◌, ◌<◌, ◌≤◌, List, length, slice_index}
+use Rattle.std.specs.Prelude.{◌≡◌, ℕ, ◌+◌, ◌<◌, ◌≤◌, List, MatchOption, length, slice_index}
 use Rattle.service_model.specs.declared.limits.TheConstants.{INF}
 use Rattle.service_model.specs.declared.plan.Plan.{Plan}
 use Rattle.service_model.specs.declared.range.Range.{Range}
@@ -11,7 +11,7 @@ use Rattle.service_model.specs.Relaxed.{IsRelaxedLeast}
 use Rattle.tree_order.specs.declared.forest.Forest.{Forest}
 use Rattle.gsm_laws.specs.Traces.{IsTracedNode, IsWhole}
 use Rattle.table_pool.specs.Pools.{IsPool}
-use Rattle.arc_relax.specs.declared.relax.Relaxed.{Relaxed}
+use Rattle.arc_relax.specs.declared.relaxed.Relaxed.{Relaxed}
 use Rattle.arc_relax.specs.StageTables.{HaveTables, root_numbers, IsLonger}
 use Rattle.arc_relax.specs.Laws.{HasPlan}
 
@@ -21,6 +21,12 @@ pub record IsTracedPlan (n : Net) (tables : List Table) (roots : List ℕ) (boun
   pub traced : IsTracedNode n tables p roots
   pub cost : cost_of n p ≡ bound
   pub small : bound < INF
+
+-- what is read from the roots' tables: their bound, and a plan that costs it, where it is below INF
+pub record IsRead (n : Net) (tables : List Table) (roots : List ℕ) (x : Relaxed) : Type 0 where
+  pub roots_are : x.roots ≡ roots
+  pub bound : x.bound ≡ bound_of tables roots
+  pub plan : MatchOption x.plan (x.bound ≡ INF) (IsTracedPlan n tables roots x.bound)
 
 -- what relaxing the range gives, and what the pool then holds
 pub record IsRelaxed (n : Net) (f : Forest) (r : Range) (old new : List Table) (count count' : ℕ) (x : Relaxed) : Type 0 where

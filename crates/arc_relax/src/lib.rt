@@ -2,9 +2,12 @@
 #![tactic(auto)]
 
 mod kinds;
+mod laws;
 mod node;
-mod relax;
+mod plans;
+mod relaxed;
 mod roots;
 mod tables;
 
-pub use relax::Relaxed;
+pub use laws::{empty_law, feasible_law, tree_law};
+pub use relaxed::{Relaxed, relax};
