@@ -133,9 +133,8 @@ tight_below_filled n tables t filled known =
     let deep = deep_list n tables s t.children there known in
     let grown = each (λ c. AllByRecursion (IsTightAt n tables) (below_within s tables c)) (λ c. AllByRecursion (IsTightAt n new) (below_within s new c))
     (λ c at. subst (AllByRecursion (IsTightAt n new)) (sym (same_below n tables (t ∷ []) s c at))
-    (each (IsTightAt n tables) (IsTightAt n new) (tight_at_grown n tables (t ∷ [])) (below_within s tables c) at)) t.children deep in
-    (
+    (each (IsTightAt n tables) (IsTightAt n new) (tight_at_grown n tables (t ∷ [])) (below_within s tables c) at)) t.children deep in (
       tight_at_filled n tables t filled,
       subst (λ (u : Table). AllByRecursion (IsTightAt n new) (flat_map (below_within s new) u.children)) (sym own)
-      (all_concat (IsTightAt n new) (below_within s new) t.children grown),
+          (all_concat (IsTightAt n new) (below_within s new) t.children grown),
     )

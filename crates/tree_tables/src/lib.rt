@@ -6,6 +6,8 @@ mod fills;
 mod local;
 mod places;
 mod sums;
+#[cfg(test)]
+mod tests;
 mod times;
 mod traces;
 mod values;
