@@ -1,2 +1,5 @@
+pub mod Kinds
 pub mod StageTables
+pub mod Nodes
 pub mod Laws
+pub mod Relaxations

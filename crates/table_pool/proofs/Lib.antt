@@ -1,2 +1,1 @@
 mod PoolFacts
-pub mod GrownFacts

@@ -1,33 +1,19 @@
 -- A pool after one table more.
 use Rattle.std.proofs.Common.{◌≡◌, ℕ, ◌+◌, ◌<◌, List, [], ◌∷◌, ◌++◌, length, sym, ap, ◌∙◌, subst, inr, ⊎_elim, arith}
 use Rattle.std.proofs.lemmas.Bool.{cases_lt}
-use Rattle.std.proofs.lemmas.List.{get_or_push, length_push}
+use Rattle.std.proofs.lemmas.List.{get_or_append_left, get_or_push, length_push}
 use Rattle.service_model.specs.declared.table.Table.{Table}
 use Rattle.service_model.specs.Net.{Net}
 use Rattle.service_model.specs.Tables.{table_at, no_table, AllTight, Tight, IsShaped}
 use Rattle.service_model.specs.Nodes.{IsTightAt}
 use Rattle.tree_tables.specs.declared.wanted.Wanted.{Wanted}
 use Rattle.tree_tables.specs.Fills.{IsAsWanted, IsFill}
+use Rattle.tree_tables.proofs.FillLaws.{tight_at_grown, tight_at_filled}
 use Rattle.table_pool.specs.Pools.{IsAlike, IsSingle, IsPool, HasWanted, IsFoundOrFilled}
-use Rattle.table_pool.proofs.GrownFacts.{grown_at, tight_grown, children_grown, tight_at_grown}
 
 -- the table that comes to the end
 last_at : (tables : List Table) (t : Table) (i : ℕ) → length tables ≡ i → table_at (tables ++ t ∷ []) i ≡ t
 last_at tables t i is = get_or_push tables t no_table i is
-
--- what filling gives is tight at the end of the list
-filled_last : (n : Net) (tables : List Table) (t : Table) (i : ℕ) → length tables ≡ i → IsFill n tables t → IsTightAt n (tables ++ t ∷ []) i
-filled_last n tables t i is fill =
-    let same = sym (last_at tables t i is) in
-    record {
-      there = omega (arith, is, length_push tables t);
-      shaped = subst (IsShaped n (tables ++ t ∷ []) i) same (record {
-        sized = fill.sized;
-        earlier = λ k d within. omega (arith, is, fill.children.there k d within);
-        children = children_grown n tables (t ∷ []) t.stage t.children fill.children.there fill.children.fit;
-      });
-      tight = subst (Tight n (tables ++ t ∷ [])) same (tight_grown n tables (t ∷ []) t fill.children.there fill.tight);
-    }
 
 -- each table is tight, where it stands and over the tables before it
 tight_each : (n : Net) (tables : List Table) → ((i : ℕ) → i < length tables → IsTightAt n tables i) → AllTight n tables
@@ -38,7 +24,7 @@ push_tight n tables t known fill =
     tight_each n (tables ++ t ∷ [])
     (λ i within. ⊎_elim
     (λ old. tight_at_grown n tables (t ∷ []) i (record { there = old; shaped = known.shaped i old; tight = known.tight i old }))
-    (λ last. filled_last n tables t i (omega (arith, last, within, length_push tables t)) fill)
+    (λ last. subst (IsTightAt n (tables ++ t ∷ [])) (let here : length tables ≡ i = omega (arith, last, within, length_push tables t) in here) (tight_at_filled n tables t fill))
     (cases_lt i (length tables)))
 
 -- tables that are as wanted are alike
@@ -66,7 +52,7 @@ wanted_alike w s t wanted alike = record {
 push_single : (tables : List Table) (w : Wanted) (t : Table) → IsSingle tables → IsAsWanted w t → ¬ HasWanted tables w → IsSingle (tables ++ t ∷ [])
 push_single tables w t single wanted absent i k within within' alike =
     let long = length_push tables t in
-    let old = λ (m : ℕ) (low : m < length tables). grown_at tables (t ∷ []) m low in
+    let old = λ (m : ℕ) (low : m < length tables). get_or_append_left tables (t ∷ []) no_table m low in
     let never = λ (m : ℕ) (low : m < length tables) (same : IsAlike (table_at (tables ++ t ∷ []) m) t).
     absent (m, low, wanted_alike w (table_at tables m) t wanted (subst (λ (s : Table). IsAlike s t) (old m low) same)) in
     ⊎_elim
