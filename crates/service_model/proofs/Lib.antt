@@ -5,6 +5,7 @@ mod EntryFacts
 mod FloorFacts
 mod FrontFacts
 mod MarkFacts
+mod PartFacts
 mod SearchedFacts
 mod TakenFacts
 mod WaitFacts

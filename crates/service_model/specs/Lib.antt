@@ -14,3 +14,14 @@ pub mod Tables
 pub mod Nodes
 pub mod Forests
 pub mod Relaxed
+pub mod Takers
+pub mod Items
+pub mod Parts
+pub mod CertRanges
+pub mod Repairs
+pub mod Verdicts
+pub mod CertNumbers
+pub mod Held
+pub mod Earned
+pub mod CertRules
+pub mod Certs

@@ -4,6 +4,10 @@
 mod arc_rules;
 mod breaks;
 mod capped;
+mod cert;
+pub mod cert_rules;
+mod collector;
+mod copies;
 mod cycle;
 mod faults;
 mod floors;
@@ -13,14 +17,18 @@ mod list;
 mod marks;
 mod network;
 mod order;
+mod parts;
 mod plan;
 mod range;
 mod ready;
 mod stage;
 mod stage_rules;
 mod table;
+mod taker;
 #[cfg(test)]
 mod tests;
+#[cfg(test)]
+mod tests_cert;
 #[cfg(test)]
 mod tests_orders;
 #[cfg(test)]
@@ -29,6 +37,8 @@ mod waits;
 
 pub use breaks::{Break, NOT_WAITED};
 pub use capped::capped_add;
+pub use cert::{Cert, Head, Item, Node, Outcome, Split, Verdict};
+pub use collector::Collector;
 pub use cycle::first_on_cycle;
 pub use faults::{NetworkFault, NewFault};
 pub use limits::{INF, MAX_ARCS, MAX_HORIZON, MAX_PLAN_COST, MAX_STAGES, MAX_TIME};
@@ -39,3 +49,4 @@ pub use plan::Plan;
 pub use range::Range;
 pub use stage::{Stage, SupplyArc};
 pub use table::{Kind, Table};
+pub use taker::{TakeStop, Taker};
