@@ -8,3 +8,4 @@ mod RootFacts
 mod BoundFacts
 mod RelaxedFacts
 pub mod RangeLaws
+pub mod CountFacts

@@ -1,7 +1,8 @@
 -- The tables of the stages, made along the forest's order.
-use Rattle.std.proofs.Common.{◌≡◌, ◌≢◌, ℕ, zero, suc, ◌+◌, ◌-◌, ◌<◌, ◌≤◌, List, [], ◌∷◌, ◌++◌, length, get_or, set, map, refl, sym, ap, ◌∙◌, subst, inl, inr, ⊎_elim, append_assoc, arith}
+use Rattle.std.proofs.Common.{◌≡◌, ◌≢◌, ℕ, zero, suc, ◌+◌, ◌-◌, ◌<◌, ◌≤◌, Result, Ok, Err, List, [], ◌∷◌, ◌++◌, length, get_or, set, map, refl, sym, ap, ◌∙◌, subst, inl, inr, ⊎_elim, append_assoc, arith}
 use Rattle.std.specs.Prelude.{All, Contains, ◌⊎◌}
 use Rattle.std.specs.List.{AllByRecursion}
+use Rattle.std.specs.Result.{OnErr}
 use Rattle.std.proofs.lemmas.Bool.{cases_lt}
 use Rattle.std.proofs.lemmas.List.{append-nil, get_or_append_left, length_push, length-set, get_or-set_same, get_or-set_other, get_or-map, get_or_default}
 use Rattle.std.proofs.lemmas.List.Elements.{All-map, All-from_recursion}
@@ -20,7 +21,7 @@ use Rattle.tree_order.proofs.ForestLaws.{order_each, each_long, children_first}
 use Rattle.tree_tables.specs.declared.wanted.Wanted.{Wanted}
 use Rattle.tree_tables.specs.Fills.{AreChildren, IsWanted, IsAsWanted}
 use Rattle.tree_tables.proofs.FillLaws.{tight_at_grown}
-use Rattle.table_pool.specs.Pools.{IsPool, IsFoundOrFilled}
+use Rattle.table_pool.specs.Pools.{IsPool, IsFoundOrFilled, IsUnchanged}
 use Rattle.arc_relax.specs.StageTables.{HasTable, HaveTables, IsWantedOf, IsLonger, AreMade, IsGrown}
 use Rattle.arc_relax.proofs.ListFacts.{each_member}
 use Rattle.arc_relax.proofs.TableFacts.{child_stage, child_own, kind_child}
@@ -194,3 +195,37 @@ next_made n r f old new new' count count' count'' numbers k id w forest made wit
           steps)
           (cases_lt i (length new));
     }
+
+-- where the next stage's table is not made, the pool has grown, and the count kept its room
+pub grown_so_far : (n : Net) (r : Range) (f : Forest) (old new : List Table) (count count' : ℕ) (numbers : List ℕ) (k : ℕ) → k ≤ length n.stages → AreMade n r f old new count count' numbers k → IsGrown n old new count count'
+grown_so_far n r f old new count count' numbers k low is =
+    let steps = is.steps in
+    let few = is.few in
+    record {
+      pool = is.pool;
+      longer = is.longer;
+      no_fewer = omega (arith, steps);
+      few = omega (arith, steps);
+      room = omega (arith, steps, few, low);
+    }
+
+-- the same, where a step was taken for nothing
+pub grown_by_one : (n : Net) (r : Range) (f : Forest) (old new after : List Table) (count count' counted : ℕ) (numbers : List ℕ) (k : ℕ) → k < length n.stages → AreMade n r f old new count count' numbers k
+    → IsUnchanged new after count' counted → IsGrown n old after count counted
+grown_by_one n r f old new after count count' counted numbers k low is unchanged =
+    let steps = is.steps in
+    let few = is.few in
+    let no_fewer = unchanged.no_fewer in
+    let one = unchanged.few in
+    subst (λ (ts : List Table). IsGrown n old ts count counted) (sym unchanged.same) (record {
+      pool = is.pool;
+      longer = is.longer;
+      no_fewer = omega (arith, steps, no_fewer);
+      few = omega (arith, steps, one);
+      room = omega (arith, steps, few, low, one);
+    })
+
+-- a fact that holds, on an error
+pub on_error : {T E P : Type 0} (r : Result T E) → P → OnErr r P
+on_error (Ok x) p = tt
+on_error (Err e) p = p

@@ -3,3 +3,4 @@ pub mod StageTables
 pub mod Nodes
 pub mod Laws
 pub mod Relaxations
+pub mod Counts

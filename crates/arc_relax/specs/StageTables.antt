@@ -48,9 +48,10 @@ pub record AreMade (n : Net) (r : Range) (f : Forest) (old new : List Table) (co
   pub made : (m : ℕ) → m < first → HasTable n r f new numbers (slice_index f.order m)
   pub fresh : (i : ℕ) → length old ≤ i → i < length new → (m : ℕ) × (m < first) × (slice_index numbers (slice_index f.order m) ≡ i)
 
--- after a refusal: the pool holds what it held and perhaps more, each table more was one step, and there was at most one step beside
+-- after a refusal: the pool holds what it held and perhaps more, each table more was one step, there was at most one step beside, and no more than stages
 pub record IsGrown (n : Net) (old new : List Table) (count count' : ℕ) : Type 0 where
   pub pool : IsPool n new
   pub longer : IsLonger old new
   pub no_fewer : count + length new ≤ count' + length old
   pub few : count' + length old ≤ count + length new + 1
+  pub room : count' ≤ count + length n.stages

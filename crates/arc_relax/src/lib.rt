@@ -9,5 +9,5 @@ mod relaxed;
 mod roots;
 mod tables;
 
-pub use laws::{empty_law, feasible_law, tree_law};
+pub use laws::{empty_law, feasible_law, step_law, tree_law};
 pub use relaxed::{Relaxed, relax};

@@ -3,6 +3,7 @@ pub mod BreakFacts
 pub mod CaseFacts
 pub mod ExactFacts
 pub mod HeadlineFacts
+pub mod LeastFacts
 pub mod ProblemFacts
 pub mod ReadFacts
 pub mod ReportFacts

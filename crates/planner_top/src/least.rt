@@ -4,14 +4,16 @@ ghost use Rattle.service_model.specs.Plans.{Least, Empty};
 ghost use Rattle.tree_order.specs.Forest.{IsForest};
 
 use crate::filled::MOST_FILLED;
+use arc_relax::relax;
 use service_model::{Network, NoMemory, Plan};
 use std::alloc::Global;
 use step_ledger::Steps;
+use table_pool::Pool;
 use tree_order::Forest;
 
 /// The least plan, or none where no plan is feasible. Each stage has one table, which is one step.
 pub fn least_plan<L>(
-    _alloc: Global,
+    alloc: Global,
     network: &Network,
     forest: &Forest,
     steps: &mut Steps<L>,
@@ -21,10 +23,12 @@ pub fn least_plan<L>(
     requires room { steps.old ≤ 2 ^ 62 }
     ensures least { IfOk result (λ found. MatchOption found (Empty network.now) (Least network.now)) }
     ensures filled { OnOk result (steps.new ≡ steps.old + length network.now.stages) }
-    ensures few_stages { OnOk result (length network.now.stages ≤ MOST_FILLED) }
     ensures later { steps.old ≤ steps.new }
     ensures few { steps.new ≤ steps.old + MOST_FILLED }
 {
-    let _count = steps.count();
-    Err(NoMemory)
+    let _stages = network.stages().len();
+    let range = network.whole(alloc)?;
+    let mut pool = Pool::new(alloc);
+    let relaxed = relax(alloc, network, forest, &range, &mut pool, steps)?;
+    Ok(relaxed.plan)
 }

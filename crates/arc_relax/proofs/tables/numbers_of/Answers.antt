@@ -1,8 +1,8 @@
 -- The next stage's table may be filled, and the pool then holds it.
-use Rattle.std.proofs.Common.{◌≡◌, ◌+◌, ◌<◌, ℕ, List, length, get_or, set, ap, sym, subst, arith}
+use Rattle.std.proofs.Common.{◌≡◌, ◌+◌, ◌<◌, ◌≤◌, ℕ, List, length, get_or, set, ap, sym, subst, arith}
 use Rattle.tree_order.proofs.ForestLaws.{order_each}
 use Rattle.arc_relax.specs.StageTables.{AreMade, IsWantedOf}
-use Rattle.arc_relax.proofs.MadeFacts.{next_wanted, next_made, order_long}
+use Rattle.arc_relax.proofs.MadeFacts.{next_wanted, next_made, order_long, grown_so_far, grown_by_one, on_error}
 use Rattle.arc_relax.proofs.tables.numbers_of.Goals as goal
 
 pub wanted_of-requires-clause-stage : goal.wanted_of-requires-clause-stage
@@ -54,3 +54,15 @@ returns-clause-ok g c =
     let x = c.args.node.now in
     let all : c.stages.stage-index ≡ length x.network.now.stages = omega (arith, c.stages-test.false, c.stages.auto.stage-index-end, ap length c.as_slice-stage-items.ensures, order_long x.network.now x.forest.now c.requires.node.forest) in
     subst (AreMade x.network.now x.range.now x.forest.now c.args.pool.now c.stages.pool c.args.steps.now c.stages.steps c.stages.numbers.items) all c.stages.invariant
+
+pub returns-in_err-wanted-clause-err : goal.returns-in_err-wanted-clause-err
+returns-in_err-wanted-clause-err g c =
+    let x = c.args.node.now in
+    let low : c.stages.stage-index ≤ length x.network.now.stages = omega (arith, c.stages-test.true, ap length c.as_slice-stage-items.ensures, order_long x.network.now x.forest.now c.requires.node.forest) in
+    on_error c.from_residual-in_err-wanted.result (grown_so_far x.network.now x.range.now x.forest.now c.args.pool.now c.stages.pool c.args.steps.now c.stages.steps c.stages.numbers.items c.stages.stage-index low c.stages.invariant)
+
+pub returns-in_err-id-clause-err : goal.returns-in_err-id-clause-err
+returns-in_err-id-clause-err g c =
+    let x = c.args.node.now in
+    let low : c.stages.stage-index < length x.network.now.stages = omega (arith, c.stages-test.true, ap length c.as_slice-stage-items.ensures, order_long x.network.now x.forest.now c.requires.node.forest) in
+    on_error c.from_residual-in_err-id.result (grown_by_one x.network.now x.range.now x.forest.now c.args.pool.now c.stages.pool c.find_or_fill.new.self c.args.steps.now c.stages.steps c.find_or_fill.new.steps c.stages.numbers.items c.stages.stage-index low c.stages.invariant c.in_err-id.ensures.err)
