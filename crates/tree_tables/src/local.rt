@@ -81,8 +81,8 @@ impl<'a> LocalSums<'a> {
         capped_add(least, self.up[outbound])
     }
 
-    /// The least local sum at an inbound time, over the outbound times of an interval. The costs of one list rise with the
-    /// outbound times of the other where that is turned.
+    /// The least local sum at an inbound time, over the outbound times of an interval. A later outbound time has an earlier
+    /// cost, so the sums come turned, and both lists are gone through forwards.
     pub fn least_outbound(&self, turned: &[u64], inbound: usize, from: usize, to: usize) -> u64
         requires turned { turned.now ≡ reverse self.now.up }
         requires inbound { inbound < length self.now.down }
@@ -113,8 +113,8 @@ impl<'a> LocalSums<'a> {
     }
 }
 
-// The least sum of an entry and of the cost at its time, over the times of an interval: `early` times before the entry's
-// the cost list starts, `late` after it.
+// The least sum of an entry and a cost, over the entries of an interval: entry k goes with the cost at the time
+// k + early - late, which may be none.
 fn least_sum(sums: &[u64], cost: &[u64], early: usize, late: usize, from: usize, to: usize) -> u64
     requires sums { All (λ x. x ≤ INF) sums.now }
     requires cost { All (λ x. x ≤ INF) cost.now }

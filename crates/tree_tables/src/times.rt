@@ -29,7 +29,9 @@ pub struct Times {
     pub outbound: u16,
 }
 
-/// The first times whose local sum is the table's value at a place.
+/// The first times whose local sum is the table's value at a place. Apart from its caller, which calls itself, so that its lists
+/// are gone before the next call.
+#[inline(never)]
 pub fn times_at(network: &Network, made: &[Filled], table: &Table, place: usize) -> Times
     requires filled { IsFill network.now made.now table.now }
     requires within { place < length table.now.values }
