@@ -8,6 +8,8 @@ mod plans;
 mod relaxed;
 mod roots;
 mod tables;
+#[cfg(test)]
+mod tests;
 
 pub use laws::{empty_law, feasible_law, step_law, tree_law};
 pub use relaxed::{Relaxed, relax};
