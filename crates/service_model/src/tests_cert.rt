@@ -83,8 +83,9 @@ fn a_collector_gives_the_certificate_of_its_items(rt: HostRuntime) -> Result<(),
         Item::Split(SPLIT),
         end(9),
     ];
-    assert_eq!(rt; seen(alloc, &items)?, Some((7, 3, 1, 9)));
-    assert_eq!(rt; seen(alloc, &items[1..])?, None, "no head");
-    assert_eq!(rt; seen(alloc, &items[..5])?, None, "no end");
+    let all = items.as_slice();
+    assert_eq!(rt; seen(alloc, all)?, Some((7, 3, 1, 9)));
+    assert_eq!(rt; seen(alloc, &all[1..])?, None, "no head");
+    assert_eq!(rt; seen(alloc, &all[..5])?, None, "no end");
     Ok(())
 }
