@@ -17,6 +17,6 @@ returns-clause-filled g c =
 pub returns-clause-few : goal.returns-clause-few
 returns-clause-few g c =
     let filled = step_law c.args.network.now c.args.forest.now c.in_ok-range.range c.relax.new.pool c.args.steps.now c.relax.new.steps c.in_ok-relaxed.relaxed
-        (subst (λ (tables : List Table). IsRelaxed c.args.network.now c.args.forest.now c.in_ok-range.range tables c.relax.new.pool c.args.steps.now c.relax.new.steps c.in_ok-relaxed.relaxed) c.new-pool.ensures.empty c.in_ok-relaxed.ensures.ok) in
+    (subst (λ (tables : List Table). IsRelaxed c.args.network.now c.args.forest.now c.in_ok-range.range tables c.relax.new.pool c.args.steps.now c.relax.new.steps c.in_ok-relaxed.relaxed) c.new-pool.ensures.empty c.in_ok-relaxed.ensures.ok) in
     let stages = c.stages.ensures.valid.few_stages in
     omega (arith, filled, stages)
