@@ -93,29 +93,36 @@ fn is_plan(plan: &Option<Plan>, inbound: &[u16], outbound: &[u16]) -> bool {
 // What is wanted of a range: its bound, and the inbound and the outbound times of its plan.
 type Wanted<'a> = (u64, Option<(&'a [u16], &'a [u16])>);
 
-// Whether the whole range over an empty pool has the wanted bound and plan, and one table and one step for each stage.
-fn is_relaxed(alloc: Global, network: &Network, wanted: Wanted) -> Result<bool, NoMemory> {
-    let mut pool = Pool::new(alloc);
-    let mut steps = Steps::new();
-    let Some(relaxed) = relaxed(alloc, network, &mut pool, &mut steps)? else {
-        return Ok(false);
-    };
+fn is_wanted(relaxed: &Relaxed, wanted: Wanted) -> bool {
     let (bound, times) = wanted;
     let planned = match times {
         Some((inbound, outbound)) => is_plan(&relaxed.plan, inbound, outbound),
         None => relaxed.plan.is_none(),
     };
-    let stages = network.stages().len();
-    Ok(planned
-        && relaxed.bound == bound
-        && pool.filled().len() == stages
-        && steps.count() == stages as u64)
+    planned && relaxed.bound == bound
 }
 
-// A supplier of lead time 3 and a customer of lead time 2 that sells at once, so many periods apart.
-fn two_stages(alloc: Global, transit: u16) -> Result<Network, NewFault> {
+// Whether the whole range over an empty pool has the wanted bound and plan, and one table and one step for each stage.
+fn is_relaxed(
+    alloc: Global,
+    network: Result<Network, NewFault>,
+    wanted: Wanted,
+) -> Result<bool, NewFault> {
+    let network = network?;
+    let mut pool = Pool::new(alloc);
+    let mut steps = Steps::new();
+    let Some(relaxed) = relaxed(alloc, &network, &mut pool, &mut steps)? else {
+        return Ok(false);
+    };
+    let stages = network.stages().len();
+    let counted = pool.filled().len() == stages && steps.count() == stages as u64;
+    Ok(counted && is_wanted(&relaxed, wanted))
+}
+
+// A supplier of lead time 3 and a customer of lead time 2 that sells at once, so many periods apart, and the customer's greatest cost.
+fn two_stages(alloc: Global, transit: u16, greatest: u64) -> Result<Network, NewFault> {
     let supplier: Row = (3, 5, &[0, 2, 3, 4]);
-    let customer: Row = (2, 0, &[0, 5, 7, 9, 10, 12]);
+    let customer: Row = (2, 0, &[0, 5, 7, 9, 10, greatest]);
     network(alloc, 5, &[supplier, customer], &[arc(0, 1, transit)])
 }
 
@@ -125,19 +132,9 @@ fn two_stages_cost_what_their_plan_costs(rt: HostRuntime) -> Result<(), Fail> {
     let at_once: Wanted = (11, Some((&[0, 0], &[0, 0])));
     let later: Wanted = (14, Some((&[0, 2], &[0, 0])));
     let never: Wanted = (INF, None);
-    assert!(rt; is_relaxed(alloc, &two_stages(alloc, 0)?, at_once)?);
-    assert!(rt; is_relaxed(alloc, &two_stages(alloc, 2)?, later)?);
-    assert!(rt; is_relaxed(alloc, &two_stages(alloc, 6)?, never)?);
-    Ok(())
-}
-
-#[test]
-fn one_stage_waits_or_cannot_be_placed(rt: HostRuntime) -> Result<(), Fail> {
-    let alloc = rt.alloc();
-    let falling = network(alloc, 2, &[(0, 0, &[9, 4, 1])], &[])?;
-    let infeasible = network(alloc, 10, &[(9, 0, &[0, 1, 2, 3])], &[])?;
-    assert!(rt; is_relaxed(alloc, &falling, (1, Some((&[2], &[0]))))?);
-    assert!(rt; is_relaxed(alloc, &infeasible, (INF, None))?);
+    assert!(rt; is_relaxed(alloc, two_stages(alloc, 0, 12), at_once)?);
+    assert!(rt; is_relaxed(alloc, two_stages(alloc, 2, 12), later)?);
+    assert!(rt; is_relaxed(alloc, two_stages(alloc, 6, 12), never)?);
     Ok(())
 }
 
@@ -145,12 +142,22 @@ fn one_stage_waits_or_cannot_be_placed(rt: HostRuntime) -> Result<(), Fail> {
 #[test]
 fn either_plan_of_a_tie_will_do(rt: HostRuntime) -> Result<(), Fail> {
     let alloc = rt.alloc();
-    let supplier: Row = (3, 5, &[0, 2, 3, 4]);
-    let customer: Row = (2, 0, &[0, 5, 7, 9, 10, 11]);
-    let network = network(alloc, 5, &[supplier, customer], &[arc(0, 1, 0)])?;
-    let early = is_relaxed(alloc, &network, (11, Some((&[0, 0], &[0, 0]))))?;
-    let late = is_relaxed(alloc, &network, (11, Some((&[0, 3], &[3, 0]))))?;
-    assert!(rt; early || late);
+    let early: Wanted = (11, Some((&[0, 0], &[0, 0])));
+    let late: Wanted = (11, Some((&[0, 3], &[3, 0])));
+    let is_early = is_relaxed(alloc, two_stages(alloc, 0, 11), early)?;
+    let is_late = is_relaxed(alloc, two_stages(alloc, 0, 11), late)?;
+    assert!(rt; is_early || is_late);
+    Ok(())
+}
+
+#[test]
+fn one_stage_waits_or_cannot_be_placed(rt: HostRuntime) -> Result<(), Fail> {
+    let alloc = rt.alloc();
+    let falling: Row = (0, 0, &[9, 4, 1]);
+    let infeasible: Row = (9, 0, &[0, 1, 2, 3]);
+    let waits: Wanted = (1, Some((&[2], &[0])));
+    assert!(rt; is_relaxed(alloc, network(alloc, 2, &[falling], &[]), waits)?);
+    assert!(rt; is_relaxed(alloc, network(alloc, 10, &[infeasible], &[]), (INF, None))?);
     Ok(())
 }
 
@@ -175,38 +182,52 @@ fn the_diamond_drops_an_arc_but_not_its_floor(rt: HostRuntime) -> Result<(), Fai
     let alloc = rt.alloc();
     let unmet: Wanted = (6, Some((&[0, 2, 2, 0], &[2, 0, 2, 0])));
     let floored: Wanted = (8, Some((&[0, 2, 2, 2], &[2, 2, 2, 0])));
-    assert!(rt; is_relaxed(alloc, &diamond(alloc, 0)?, unmet)?);
-    assert!(rt; is_relaxed(alloc, &diamond(alloc, 1)?, floored)?);
+    assert!(rt; is_relaxed(alloc, diamond(alloc, 0), unmet)?);
+    assert!(rt; is_relaxed(alloc, diamond(alloc, 1), floored)?);
     Ok(())
+}
+
+// The roots of the whole range and how many tables and steps there are, after it was relaxed twice over one pool.
+fn twice(alloc: Global) -> Result<Option<(bool, usize, u64)>, NewFault> {
+    let network = diamond(alloc, 0)?;
+    let mut pool = Pool::new(alloc);
+    let mut steps = Steps::new();
+    let Some(first) = relaxed(alloc, &network, &mut pool, &mut steps)? else {
+        return Ok(None);
+    };
+    let Some(again) = relaxed(alloc, &network, &mut pool, &mut steps)? else {
+        return Ok(None);
+    };
+    let same = first.roots.as_slice() == again.roots.as_slice();
+    Ok(Some((same, pool.filled().len(), steps.count())))
 }
 
 #[test]
 fn a_range_that_was_relaxed_fills_nothing_again(rt: HostRuntime) -> Result<(), Fail> {
-    let alloc = rt.alloc();
-    let network = diamond(alloc, 0)?;
-    let mut pool = Pool::new(alloc);
-    let mut steps = Steps::new();
-    let first = relaxed(alloc, &network, &mut pool, &mut steps)?.ok_or("too many")?;
-    let again = relaxed(alloc, &network, &mut pool, &mut steps)?.ok_or("too many")?;
-    assert_eq!(rt; again.roots.as_slice(), first.roots.as_slice());
-    assert_eq!(rt; pool.filled().len(), 4);
-    assert_eq!(rt; steps.count(), 4);
+    assert_eq!(rt; twice(rt.alloc())?, Some((true, 4, 4)));
     Ok(())
 }
 
 // As many stages as there may be, each at the greatest cost that files give.
-#[test]
-fn the_largest_sum_is_exact(rt: HostRuntime) -> Result<(), Fail> {
-    let alloc = rt.alloc();
+fn largest(alloc: Global) -> Result<Network, NewFault> {
     let mut stages = List::new(alloc);
     for _stage in 0..1_000 {
         stages.push(stage(alloc, &(0, 0, &[1_000_000_000_000_000]))?)?;
     }
-    let network = network_of(alloc, 0, stages, &[])?;
+    network_of(alloc, 0, stages, &[])
+}
+
+// What the network's whole range costs at least.
+fn bound_of(alloc: Global, network: Result<Network, NewFault>) -> Result<Option<u64>, NewFault> {
+    let network = network?;
     let mut pool = Pool::new(alloc);
     let mut steps = Steps::new();
-    let relaxed = relaxed(alloc, &network, &mut pool, &mut steps)?.ok_or("too many")?;
-    assert_eq!(rt; relaxed.bound, 1_000_000_000_000_000_000);
-    assert_eq!(rt; steps.count(), 1_000);
+    Ok(relaxed(alloc, &network, &mut pool, &mut steps)?.map(|relaxed| relaxed.bound))
+}
+
+#[test]
+fn the_largest_sum_is_exact(rt: HostRuntime) -> Result<(), Fail> {
+    let alloc = rt.alloc();
+    assert_eq!(rt; bound_of(alloc, largest(alloc))?, Some(1_000_000_000_000_000_000));
     Ok(())
 }

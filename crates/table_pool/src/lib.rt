@@ -2,5 +2,7 @@
 #![tactic(auto)]
 
 mod pool;
+#[cfg(test)]
+mod tests;
 
 pub use pool::Pool;
