@@ -77,11 +77,11 @@ marked_more arcs parent stages a kinds mid kinds' marked within ends long first 
     let c_low : c < length mid = omega (arith, mid_long, marked.long, long, ends.customer) in
     let leads : Leads arcs s c = (a, within, refl, refl) in
     let is_down : down ≡ true → IsKindOf arcs parent s Down = λ on.
-        let is = eqb-true (get_or parent s 0) c on in
-        (λ same. ends.apart (sym same ∙ is), subst (Leads arcs s) (sym is) leads) in
+    let is = eqb-true (get_or parent s 0) c on in
+    (λ same. ends.apart (sym same ∙ is), subst (Leads arcs s) (sym is) leads) in
     let is_up : up ≡ true → IsKindOf arcs parent c Up = λ on.
-        let is = eqb-true (get_or parent c 0) s on in
-        (λ same. ends.apart (sym is ∙ same), subst (λ i. Leads arcs i c) (sym is) leads) in
+    let is = eqb-true (get_or parent c 0) s on in
+    (λ same. ends.apart (sym is ∙ same), subst (λ i. Leads arcs i c) (sym is) leads) in
     record {
       long = set_length mid kinds' up c Up second ∙ mid_long ∙ marked.long;
       right = set_right arcs parent mid kinds' up c Up c_low second is_up (set_right arcs parent kinds mid down s Down s_low first is_down marked.right);
@@ -103,7 +103,6 @@ marked_more arcs parent stages a kinds mid kinds' marked within ends long first 
           (eq-eqb (get_or parent c 0) s (subst (λ k. get_or parent (arc_in arcs k).customer 0 ≡ (arc_in arcs k).supplier) here joined))) ∙ root)))
           (cases_lt b a);
     }
-
 
 -- after all arcs
 pub marked_all : (n : Net) (f : Forest) (kinds : List Kind) (count : ℕ) → IsForest (length n.stages) n.arcs f → AreMarked n.arcs f.parent count kinds → length n.arcs ≤ count

@@ -68,8 +68,7 @@ relaxed_from n r f old new count count' numbers roots valid forest made are x re
       pool = made.pool;
       longer = made.longer;
       fresh = λ i late early.
-          let was = made.fresh i late early in
-          (
+          let was = made.fresh i late early in (
             get_or f.order was.0 0,
             (order_each (length n.stages) n.arcs f forest).low was.0 0 (omega (arith, was.1, order_long n f forest)),
             was.2,

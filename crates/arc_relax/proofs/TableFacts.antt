@@ -47,9 +47,9 @@ kept_met : (n : Net) (parent : List ℕ) (p : Plan) (i j : ℕ) → IsNetwork n 
 kept_met n parent p i j valid met (a, within, from, to) joined =
     let arc = arc_in n.arcs a in
     let kept : IsKept parent arc = ⊎_elim
-        (λ up. inl (ap (λ x. get_or parent x 0) from ∙ up ∙ sym to))
-        (λ down. inr (ap (λ x. get_or parent x 0) to ∙ down ∙ sym from))
-        joined in
+    (λ up. inl (ap (λ x. get_or parent x 0) from ∙ up ∙ sym to))
+    (λ down. inr (ap (λ x. get_or parent x 0) to ∙ down ∙ sym from))
+    joined in
     let here : outbound_at p arc.supplier + arc.transit ≤ inbound_at p arc.customer = met a within kept in
     let way : transit_in n.arcs arc.supplier arc.customer ≡ arc.transit = transit_in-arc n a valid within in
     let same : transit_in n.arcs arc.supplier arc.customer ≡ transit_in n.arcs i j = ap (λ x. transit_in n.arcs x arc.customer) from ∙ ap (transit_in n.arcs i) to in

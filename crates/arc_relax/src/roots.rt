@@ -8,12 +8,7 @@ use std::alloc::Global;
 use tree_tables::Filled;
 
 // Adds the number of a stage's table, where the stage is a root.
-fn push_root(
-    roots: &mut List<u32>,
-    parent: u32,
-    stage: u32,
-    number: u32,
-) -> Result<(), NoMemory>
+fn push_root(roots: &mut List<u32>, parent: u32, stage: u32, number: u32) -> Result<(), NoMemory>
     ensures { OnOk result (roots.new ≡ roots.old ++ (if parent == stage then number ∷ [] else [])) }
 {
     if parent == stage {

@@ -83,9 +83,7 @@ fn relaxed(
 
 fn is_plan(plan: &Option<Plan>, inbound: &[u16], outbound: &[u16]) -> bool {
     match plan {
-        Some(plan) => {
-            plan.inbound.as_slice() == inbound && plan.outbound.as_slice() == outbound
-        }
+        Some(plan) => { plan.inbound.as_slice() == inbound && plan.outbound.as_slice() == outbound }
         None => false,
     }
 }
@@ -167,12 +165,7 @@ fn diamond(alloc: Global, transit: u16) -> Result<Network, NewFault> {
     let left: Row = (0, 2, &[0, 6, 6]);
     let right: Row = (0, 2, &[0, 1, 1]);
     let last: Row = (0, 0, &[0, 8, 8]);
-    let arcs = [
-        arc(0, 1, 0),
-        arc(0, 2, 0),
-        arc(1, 3, 0),
-        arc(2, 3, transit),
-    ];
+    let arcs = [arc(0, 1, 0), arc(0, 2, 0), arc(1, 3, 0), arc(2, 3, transit)];
     network(alloc, 2, &[first, left, right, last], &arcs)
 }
 
@@ -228,6 +221,9 @@ fn bound_of(alloc: Global, network: Result<Network, NewFault>) -> Result<Option<
 #[test]
 fn the_largest_sum_is_exact(rt: HostRuntime) -> Result<(), Fail> {
     let alloc = rt.alloc();
-    assert_eq!(rt; bound_of(alloc, largest(alloc))?, Some(1_000_000_000_000_000_000));
+    assert_eq!(rt;
+        bound_of(alloc, largest(alloc))?,
+        Some(1_000_000_000_000_000_000)
+    );
     Ok(())
 }
