@@ -1,8 +1,7 @@
 -- The promise of the top call follows from what each status says.
 use Rattle.std.proofs.Common.{◌≡◌, ◌≤◌, ℕ, List, Option, Some, None, [], ◌∷◌, refl, sym, ◌∙◌, subst, arith, inl, inr}
-use Rattle.std.specs.Result.{IsOk}
 use Rattle.gsm_outside.specs.Causes.{Rose}
-use Rattle.planner_top.specs.Asked.{asked_of}
+use Rattle.planner_top.specs.Problems.{IsUnreadOf}
 use Rattle.planner_top.specs.Texts.{fault_row}
 use Rattle.planner_top.specs.Runs.{Run, IsLater, Answered, status_of, StatusCase, FaultCase}
 use Rattle.planner_top.specs.Headline.{Exactly, Headline}
@@ -123,11 +122,11 @@ still : (r : Run) → r.reads ≤ r.reads_after → r.faults ≤ r.faults_after 
 still r reads faults ticks = record { reads = reads; faults = faults; ticks = omega (arith, ticks); few = omega (arith, ticks) }
 
 -- what is left of a run whose read failed
-pub fault_case : (r : Run) (word : FileWord) (s : Status) → r.reads ≤ r.reads_after → Rose r.reads r.reads_after → IsOk (asked_of r.words) → r.ticks_after ≡ r.ticks → FaultCase word r.written r.written_after r.faults r.faults_after s → StatusCase r s
-fault_case r word status.ReadFault later rose asked ticks case = (later, (rose, case.0, ticks, asked, (word, case.1)))
-fault_case r word status.WriteFault later rose asked ticks case = (still r later case.0 ticks, case.1, inr (fault_row word ∷ [], inr (rose, ticks, asked, (word, refl)), case.2))
+pub fault_case : (r : Run) (word : FileWord) (s : Status) → r.reads ≤ r.reads_after → Rose r.reads r.reads_after → IsUnreadOf r.words r.held word → r.ticks_after ≡ r.ticks → FaultCase word r.written r.written_after r.faults r.faults_after s → StatusCase r s
+fault_case r word status.ReadFault later rose asked ticks case = (later, (rose, case.0, ticks, (word, asked, case.1)))
+fault_case r word status.WriteFault later rose asked ticks case = (still r later case.0 ticks, case.1, inr (fault_row word ∷ [], inr (rose, ticks, (word, asked, refl)), case.2))
 fault_case r word status.NoMemory later rose asked ticks (faults, inl same) = (still r later faults ticks, inl same)
-fault_case r word status.NoMemory later rose asked ticks (faults, inr part) = (still r later faults ticks, inr (fault_row word ∷ [], inr (rose, ticks, asked, (word, refl)), part))
+fault_case r word status.NoMemory later rose asked ticks (faults, inr part) = (still r later faults ticks, inr (fault_row word ∷ [], inr (rose, ticks, (word, asked, refl)), part))
 fault_case r word status.Done later rose asked ticks case = absurd case
 fault_case r word status.Infeasible later rose asked ticks case = absurd case
 fault_case r word status.Spent later rose asked ticks case = absurd case

@@ -8,4 +8,5 @@ pub mod ProblemFacts
 pub mod ReadFacts
 pub mod ReportFacts
 pub mod TaskFacts
+pub mod UnreadFacts
 pub mod WordFacts

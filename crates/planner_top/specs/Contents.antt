@@ -1,8 +1,9 @@
 -- The bytes of the files of a request.
-use Rattle.std.specs.Prelude.{◌≡◌, ◌≤◌, ℕ, nat_lt, List, [], ◌∷◌, length, Option, Some, None, Result, Ok, Err, IfSome, if◌then◌else◌}
+use Rattle.std.specs.Prelude.{◌≡◌, ◌≤◌, ℕ, nat_lt, List, [], ◌∷◌, length, Option, Some, None, Result, Ok, Err, IfSome, if◌then◌else◌, ⊤}
 use Rattle.service_model.specs.Search.{first_of}
 use Rattle.gsm_outside.specs.Held.{Held, file_bytes}
 use Rattle.gsm_outside.specs.Causes.{Rose}
+use Rattle.planner_top.specs.declared.command.Command.{Command}
 use Rattle.planner_top.specs.Commands.{further_file}
 use Rattle.planner_top.specs.Asked.{Asked}
 use Rattle.planner_top.specs.declared.files.TheConstants.{FILE_LIMIT}
@@ -32,6 +33,28 @@ too_long_of q held =
     ∷ further_long (further_file q.command) (file_bytes held q.further)
     ∷ []
     )
+
+-- the first file longer than its limit that a request reads before this one
+abbrev pub longer_before : Asked → Held → FileWord → Option FileWord
+longer_before q held file.Stages = None
+longer_before q held file.Tables = long_if file.Stages (file_bytes held q.stages)
+longer_before q held file.Arcs = first_of (long_if file.Stages (file_bytes held q.stages) ∷ long_if file.Tables (file_bytes held q.tables) ∷ [])
+longer_before q held file.Plan =
+    first_of (
+    long_if file.Stages (file_bytes held q.stages)
+    ∷ long_if file.Tables (file_bytes held q.tables)
+    ∷ long_if file.Arcs (file_bytes held q.arcs)
+    ∷ []
+    )
+
+-- a command reads the file
+abbrev pub IsFileOf : Command → FileWord → Type 0
+IsFileOf command file.Plan = further_file command ≡ Some file.Plan
+IsFileOf command _ = ⊤
+
+-- a file of the request that could be the one that was not read: none that is read before it is longer than its limit
+abbrev pub IsUnread : Asked → Option Held → FileWord → Type 0
+IsUnread q held word = IsFileOf q.command word × IfSome held (λ m. longer_before q m word ≡ None)
 
 -- the bytes of a further file, none where there is none
 abbrev pub further_bytes : Option FileWord → List ℕ → List ℕ
@@ -68,7 +91,7 @@ FurtherCase word held name before now (Ok bytes) =
 FurtherCase word held name before now (Err (unsolved.Stop (stop.TooLong long))) =
     (now ≡ before) × IfSome held (λ m. further_long word (file_bytes m name) ≡ Some long)
 FurtherCase word held name before now (Err (unsolved.Stop _)) = ⊥
-FurtherCase word held name before now (Err (unsolved.Fault file)) = (before ≤ now) × Rose before now
+FurtherCase word held name before now (Err (unsolved.Fault unread)) = (before ≤ now) × Rose before now × (word ≡ Some unread)
 FurtherCase word held name before now (Err unsolved.NoMemory) = before ≤ now
 
 -- what reading the files of a request gives, with the count of failed reads before and after it
@@ -76,5 +99,5 @@ abbrev pub FilesCase : Asked → Option Held → ℕ → ℕ → Result Contents
 FilesCase q held before now (Ok c) = (now ≡ before) × AreShort c × IfSome held (λ m. (too_long_of q m ≡ None) × (c ≡ contents_of q m))
 FilesCase q held before now (Err (unsolved.Stop (stop.TooLong word))) = (now ≡ before) × IfSome held (λ m. too_long_of q m ≡ Some word)
 FilesCase q held before now (Err (unsolved.Stop _)) = ⊥
-FilesCase q held before now (Err (unsolved.Fault word)) = (before ≤ now) × Rose before now
+FilesCase q held before now (Err (unsolved.Fault word)) = (before ≤ now) × Rose before now × IsUnread q held word
 FilesCase q held before now (Err unsolved.NoMemory) = before ≤ now

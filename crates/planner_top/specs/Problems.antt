@@ -3,6 +3,7 @@ use Rattle.std.specs.Prelude.{◌≡◌, ◌≤◌, ◌+◌, ℕ, List, Option, 
 use Rattle.gsm_outside.specs.Held.{Held}
 use Rattle.gsm_outside.specs.Causes.{Rose}
 use Rattle.planner_top.specs.Asked.{Asked, asked_of}
+use Rattle.planner_top.specs.Contents.{IsUnread}
 use Rattle.planner_top.specs.Tasks.{IsReady}
 use Rattle.planner_top.specs.Answers.{IsAskedProblem, IsProblem, MayEnd, IsAnswer}
 use Rattle.planner_top.specs.declared.filled.TheConstants.{MOST_FILLED}
@@ -10,6 +11,7 @@ use Rattle.planner_top.specs.declared.command.Command.{Command}
 use Rattle.planner_top.specs.declared.command.Command.TheVariants as command
 use Rattle.planner_top.specs.declared.task.Task.{Task}
 use Rattle.planner_top.specs.declared.task.Task.TheVariants as task
+use Rattle.planner_top.specs.declared.stop.FileWord.{FileWord}
 use Rattle.planner_top.specs.declared.stop.Stop.{Stop}
 use Rattle.planner_top.specs.declared.stop.Stop.TheVariants as stop
 use Rattle.planner_top.specs.declared.stop.Unsolved.{Unsolved}
@@ -24,6 +26,10 @@ TellsWords words (stop.Words fault) = asked_of words ≡ Err fault
 TellsWords words (stop.TooLong word) = IsOk (asked_of words)
 TellsWords words (stop.Refused fault) = IsOk (asked_of words)
 
+-- the file that was not read is one that the words ask for
+abbrev pub IsUnreadOf : List (List ℕ) → Option Held → FileWord → Type 0
+IsUnreadOf words held word = (q : Asked) × (asked_of words ≡ Ok q) × IsUnread q held word
+
 -- a task is the one of a command
 abbrev pub IsTaskOf : Command → Task → Type 0
 IsTaskOf command.Solve (task.Solve c f) = ⊤
@@ -35,7 +41,7 @@ abbrev pub AskedCase : Asked → Option Held → ℕ → ℕ → Result Task Uns
 AskedCase q held before now (Ok t) = (now ≡ before) × IsReady t × IsTaskOf q.command t × IfSome held (λ m. IsAskedProblem q m (Ok t))
 AskedCase q held before now (Err (unsolved.Stop (stop.Words fault))) = ⊥
 AskedCase q held before now (Err (unsolved.Stop s)) = (now ≡ before) × IfSome held (λ m. IsAskedProblem q m (Err s))
-AskedCase q held before now (Err (unsolved.Fault word)) = (before ≤ now) × Rose before now
+AskedCase q held before now (Err (unsolved.Fault word)) = (before ≤ now) × Rose before now × IsUnread q held word
 AskedCase q held before now (Err unsolved.NoMemory) = before ≤ now
 
 -- what the words ask to be done, or why there is nothing to do
@@ -44,7 +50,7 @@ ProblemCase words held before now (Ok t) =
     (now ≡ before) × IsReady t × ((q : Asked) × (asked_of words ≡ Ok q) × IsTaskOf q.command t) × IfSome held (λ m. IsProblem words m (Ok t))
 ProblemCase words held before now (Err (unsolved.Stop s)) =
     (now ≡ before) × TellsWords words s × IfSome held (λ m. IsProblem words m (Err s))
-ProblemCase words held before now (Err (unsolved.Fault word)) = (before ≤ now) × Rose before now × IsOk (asked_of words)
+ProblemCase words held before now (Err (unsolved.Fault word)) = (before ≤ now) × Rose before now × IsUnreadOf words held word
 ProblemCase words held before now (Err unsolved.NoMemory) = before ≤ now
 
 -- the answer to the words, or why there is none, with the count of filled tables before and after
@@ -52,6 +58,6 @@ abbrev pub AnswerCase : List (List ℕ) → Option Held → ℕ → ℕ → ℕ 
 AnswerCase words held before now ticks ticked (Ok a) =
     (now ≡ before) × ((filled : ℕ) × (ticked ≡ ticks + filled) × IsAnswer words held a.ending a.rows filled)
 AnswerCase words held before now ticks ticked (Err (unanswered.Fault word)) =
-    (before ≤ now) × Rose before now × IsOk (asked_of words) × (ticked ≡ ticks)
+    (before ≤ now) × Rose before now × IsUnreadOf words held word × (ticked ≡ ticks)
 AnswerCase words held before now ticks ticked (Err unanswered.NoMemory) =
     (before ≤ now) × (ticks ≤ ticked) × (ticked ≤ ticks + MOST_FILLED)

@@ -1,9 +1,9 @@
 -- What is seen of a run, and what each status says of it.
-use Rattle.std.specs.Prelude.{◌≡◌, ◌≤◌, ◌+◌, ◌⊎◌, ℕ, List, [], ◌∷◌, ◌++◌, Option, IsOk, take, option_map}
+use Rattle.std.specs.Prelude.{◌≡◌, ◌≤◌, ◌+◌, ◌⊎◌, ℕ, List, [], ◌∷◌, ◌++◌, Option, take, option_map}
 use Rattle.gsm_outside.specs.Held.{Held}
 use Rattle.gsm_outside.specs.Causes.{Rose}
-use Rattle.planner_top.specs.Asked.{asked_of}
 use Rattle.planner_top.specs.Answers.{IsAnswer}
+use Rattle.planner_top.specs.Problems.{IsUnreadOf}
 use Rattle.planner_top.specs.Texts.{lines_of, fault_row}
 use Rattle.planner_top.specs.declared.filled.TheConstants.{MOST_FILLED}
 use Rattle.planner_top.specs.declared.stop.FileWord.{FileWord}
@@ -70,17 +70,17 @@ Answered r e =
     (r.reads_after ≡ r.reads) × (r.faults_after ≡ r.faults)
     × ((rows : List (List (List ℕ))) × (filled : ℕ) × (r.ticks_after ≡ r.ticks + filled) × IsAnswer r.words r.held e rows filled × Follows r.written (lines_of rows) r.written_after)
 
--- a read failed, no rule on words did, and the line that says so follows what was written
+-- a read failed, no rule on words did, and the line that says so follows what was written; the file that it names may be the one
 abbrev pub FailedRead : Run → Type 0
 FailedRead r =
-    Rose r.reads r.reads_after × (r.faults_after ≡ r.faults) × (r.ticks_after ≡ r.ticks) × IsOk (asked_of r.words)
-    × ((word : FileWord) × Follows r.written (lines_of (fault_row word ∷ [])) r.written_after)
+    Rose r.reads r.reads_after × (r.faults_after ≡ r.faults) × (r.ticks_after ≡ r.ticks)
+    × ((word : FileWord) × IsUnreadOf r.words r.held word × Follows r.written (lines_of (fault_row word ∷ [])) r.written_after)
 
 -- the rows that a run prints: an answer where no read failed, or that a file could not be read where one failed
 abbrev pub IsPrinted : Run → List (List (List ℕ)) → Type 0
 IsPrinted r rows =
     ((r.reads_after ≡ r.reads) × ((e : Ending) × (filled : ℕ) × (r.ticks_after ≡ r.ticks + filled) × IsAnswer r.words r.held e rows filled))
-    ⊎ (Rose r.reads r.reads_after × (r.ticks_after ≡ r.ticks) × IsOk (asked_of r.words) × ((word : FileWord) × (rows ≡ fault_row word ∷ [])))
+    ⊎ (Rose r.reads r.reads_after × (r.ticks_after ≡ r.ticks) × ((word : FileWord) × IsUnreadOf r.words r.held word × (rows ≡ fault_row word ∷ [])))
 
 -- nothing was written, or the front of what a run prints
 abbrev pub PartPrinted : Run → Type 0
