@@ -9,19 +9,19 @@ use Rattle.service_model.specs.Net.{no_arc}
 use Rattle.service_model.specs.Walks.{Leads}
 use Rattle.service_model.specs.Customers.{HasEnds}
 use Rattle.stage_file.specs.declared.arcs.ArcRow.{ArcRow}
-use Rattle.stage_file.specs.Arcs.{ArcRowWithin}
 use Rattle.demand_tables.specs.Demand.{arcs_from}
 use Rattle.demand_tables.specs.DemandFaults.{supply_arc, turned}
+use Rattle.demand_tables.specs.DemandNet.{JoinsStages}
 
 -- what stands for an arc that there is not
 abbrev pub no_arc_row : ArcRow
 no_arc_row = record { supplier = 0; customer = 0; quantity = 0; transit = 0; row = 0 }
 
-pub supply_ends : (stages : ℕ) (arcs : List ArcRow) → All (ArcRowWithin stages) arcs → HasEnds stages (map supply_arc arcs)
+pub supply_ends : (stages : ℕ) (arcs : List ArcRow) → All (JoinsStages stages) arcs → HasEnds stages (map supply_arc arcs)
 supply_ends stages arcs within =
     All-map (λ (a : SupplyArc). (a.supplier < stages) × (a.customer < stages)) supply_arc arcs (λ k d inside. ((within k d inside).supplier, (within k d inside).customer))
 
-pub turned_ends : (stages : ℕ) (arcs : List ArcRow) → All (ArcRowWithin stages) arcs → HasEnds stages (map turned arcs)
+pub turned_ends : (stages : ℕ) (arcs : List ArcRow) → All (JoinsStages stages) arcs → HasEnds stages (map turned arcs)
 turned_ends stages arcs within =
     All-map (λ (a : SupplyArc). (a.supplier < stages) × (a.customer < stages)) turned arcs (λ k d inside. ((within k d inside).customer, (within k d inside).supplier))
 

@@ -11,18 +11,17 @@ use Rattle.service_model.specs.Search.{first_of}
 use Rattle.service_model.specs.Walks.{NoCycle}
 use Rattle.service_model.proofs.SearchFacts.{below_none}
 use Rattle.service_model.proofs.OrderLaws.{stage_place}
-use Rattle.stage_file.specs.declared.limits.TheConstants.{MAX_EXCESS}
+use Rattle.stage_file.specs.declared.limits.TheConstants.{MAX_EXCESS, MAX_QUANTITY}
 use Rattle.stage_file.specs.declared.rules.TheConstants.{TOO_LARGE}
 use Rattle.stage_file.specs.declared.fault.FileFault.{FileFault}
 use Rattle.stage_file.specs.declared.fault.FileKind.TheVariants.{Stages}
 use Rattle.stage_file.specs.declared.fault.ReadFault.{ReadFault}
 use Rattle.stage_file.specs.declared.arcs.ArcRow.{ArcRow}
 use Rattle.stage_file.specs.declared.raw.RawNet.{RawNet}
-use Rattle.stage_file.specs.Arcs.{ArcRowWithin}
 use Rattle.stage_file.specs.Faults.{fault_of}
-use Rattle.stage_file.specs.Raw.{IsRawNet}
 use Rattle.demand_tables.specs.Demand.{row_at, arcs_from, excess_at, IsExcess, IsOnlyExcess, ExcessWithin}
 use Rattle.demand_tables.specs.DemandFaults.{supply_arc, turned, has_large, too_large_at, bound_rules, IsExcessFault, IsDemandFault, IsDemandOrder, DemandCase}
+use Rattle.demand_tables.specs.DemandNet.{JoinsStages, IsDemandNet}
 use Rattle.demand_tables.specs.Lookups.{AreAnswered}
 use Rattle.demand_tables.proofs.ExcessLaws.{finished, one_excess}
 use Rattle.demand_tables.proofs.RuleFacts.{holds, first_fails}
@@ -54,7 +53,7 @@ large_is horizon xs short = ap (list_any (nat_lt MAX_EXCESS)) (take_all (horizon
 none_large : (xs : List ℕ) → All (λ x. x ≤ MAX_EXCESS) xs → list_any (nat_lt MAX_EXCESS) xs ≡ false
 none_large xs each = list_any_none (nat_lt MAX_EXCESS) xs (λ k d inside. le-ltb MAX_EXCESS (get_or xs k d) (each k d inside))
 
-module _ (raw : RawNet) (order : List ℕ) (read : IsRawNet raw) (sorted : IsDemandOrder raw order) where
+module _ (raw : RawNet) (order : List ℕ) (net : IsDemandNet raw) (sorted : IsDemandOrder raw order) where
   -- the customers of the next stage have their excess demands
   customers_within : (k : ℕ) (lists : List (List ℕ)) → k < length order → SoFar raw order k lists → All (λ a. ExcessWithin raw.horizon (excess_at lists a.customer)) (arcs_from raw.arcs (get_or order k 0))
   customers_within k lists inside so =
@@ -66,19 +65,19 @@ module _ (raw : RawNet) (order : List ℕ) (read : IsRawNet raw) (sorted : IsDem
   answered k lists inside so =
       let p = λ (a : ArcRow). nat_eq a.supplier (get_or order k 0) in
       record {
-        few = omega (arith, read.arcs.few, length-filter p raw.arcs, count_by-le-length p raw.arcs);
+        few = omega (arith, net.few_arcs, length-filter p raw.arcs, count_by-le-length p raw.arcs);
         each = λ i d low.
-            let arc = All-filter p (ArcRowWithin (length raw.stages)) raw.arcs read.arcs.within i d low in
+            let arc = All-filter p (JoinsStages (length raw.stages)) raw.arcs net.ends i d low in
             record {
               customer = omega (arith, arc.customer, so.solved.long);
-              quantity = arc.quantity;
+              quantity = All-filter p (λ (a : ArcRow). a.quantity ≤ MAX_QUANTITY) raw.arcs net.quantities i d low;
               small = (customers_within k lists inside so i d low).small;
             };
       }
 
   lasts : (k : ℕ) (lists : List (List ℕ)) (xs : List ℕ) → k < length order → SoFar raw order k lists → IsExcess raw lists (get_or order k 0) xs → LastsWithin raw.horizon xs
   lasts k lists xs inside so is =
-      bounded_lasts raw lists (arcs_from raw.arcs (get_or order k 0)) (row_at raw (get_or order k 0)).bound xs read.tables (customers_within k lists inside so) is
+      bounded_lasts raw lists (arcs_from raw.arcs (get_or order k 0)) (row_at raw (get_or order k 0)).bound xs net.entries (customers_within k lists inside so) is
 
   -- one stage more
   pub next : (k : ℕ) (lists : List (List ℕ)) (xs : List ℕ) → k < length order → SoFar raw order k lists → IsExcess raw lists (get_or order k 0) xs
@@ -137,7 +136,7 @@ module _ (raw : RawNet) (order : List ℕ) (read : IsRawNet raw) (sorted : IsDem
       subst (λ o. MatchOption o (IsExcessFault raw (Some fault)) (λ f. Some fault ≡ Some f)) (sym none) found
 
 -- the excess demands that are given are the only ones
-pub only_case : (raw : RawNet) (result : Result (List (List ℕ)) ReadFault) → All (ArcRowWithin (length raw.stages)) raw.arcs → NoCycle (length raw.stages) (map supply_arc raw.arcs)
+pub only_case : (raw : RawNet) (result : Result (List (List ℕ)) ReadFault) → All (JoinsStages (length raw.stages)) raw.arcs → NoCycle (length raw.stages) (map supply_arc raw.arcs)
     → DemandCase raw result → IfOk result (IsOnlyExcess raw)
-only_case raw (Ok lists) within acyclic is = λ others has. one_excess raw others lists within acyclic has is.1
-only_case raw (Err fault) within acyclic is = tt
+only_case raw (Ok lists) ends acyclic is = λ others has. one_excess raw others lists ends acyclic has is.1
+only_case raw (Err fault) ends acyclic is = tt

@@ -9,9 +9,9 @@ use Rattle.service_model.proofs.SearchFacts.{first_of_none, none_below}
 use Rattle.service_model.proofs.OrderLaws.{place_stage}
 use Rattle.stage_file.specs.declared.raw.RawNet.{RawNet}
 use Rattle.stage_file.specs.declared.rules.TheConstants.{NO_TABLE, NO_CUSTOMERS}
-use Rattle.stage_file.specs.Arcs.{ArcRowWithin}
 use Rattle.demand_tables.specs.Demand.{row_at, table_names, arcs_from, excess_at, IsExcess, HasExcess}
 use Rattle.demand_tables.specs.DemandFaults.{supply_arc, turned, lacks_table, asks_customers, no_table_at, no_customers_at, bound_rules, IsDemandOrder}
+use Rattle.demand_tables.specs.DemandNet.{JoinsStages}
 use Rattle.demand_tables.proofs.ArcFacts.{supply_ends, each_customer}
 use Rattle.demand_tables.proofs.BoundedFacts.{bounded_moved, one_bounded}
 use Rattle.demand_tables.proofs.Downstream.{downstream}
@@ -20,7 +20,7 @@ use Rattle.demand_tables.proofs.RuleFacts.{passed}
 use Rattle.demand_tables.proofs.SolvedFacts.{Solved, solved_more, solved_all, earlier_stays}
 
 -- two lists of excess demands are equal
-pub one_excess : (raw : RawNet) (lists others : List (List ℕ)) → All (ArcRowWithin (length raw.stages)) raw.arcs → NoCycle (length raw.stages) (map supply_arc raw.arcs)
+pub one_excess : (raw : RawNet) (lists others : List (List ℕ)) → All (JoinsStages (length raw.stages)) raw.arcs → NoCycle (length raw.stages) (map supply_arc raw.arcs)
     → HasExcess raw lists → HasExcess raw others → lists ≡ others
 one_excess raw lists others within acyclic first second =
     ext_get_or [] lists others (first.long ∙ sym second.long) (λ i inside.

@@ -5,6 +5,7 @@ mod CaseFacts
 mod Downstream
 pub mod ExcessLaws
 mod MadeFacts
+pub mod NetFacts
 mod OrderFacts
 mod RuleFacts
 mod ShortestFacts

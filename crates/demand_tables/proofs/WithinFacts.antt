@@ -12,22 +12,22 @@ use Rattle.stage_file.specs.declared.tables.TableRow.{TableRow}
 use Rattle.stage_file.specs.declared.arcs.ArcRow.{ArcRow}
 use Rattle.stage_file.specs.declared.raw.RawNet.{RawNet}
 use Rattle.stage_file.specs.Arcs.{place_of}
-use Rattle.stage_file.specs.Tables.{AreTableRows}
 use Rattle.demand_tables.specs.Demand.{no_table, table_names, named_excess, excess_at, ExcessWithin, IsShortest, IsBounded}
+use Rattle.demand_tables.specs.DemandNet.{HaveEntries}
 
 -- there is an entry, and none is past the horizon
 pub record LastsWithin (horizon : ℕ) (xs : List ℕ) : Type 0 where
   pub some : 0 < length xs
   pub short : length xs ≤ horizon + 1
 
-named_lasts : (raw : RawNet) (name : List ℕ) (place : Option ℕ) (xs : List ℕ) → AreTableRows raw.tables → place_of (table_names raw.tables) name ≡ place
+named_lasts : (raw : RawNet) (name : List ℕ) (place : Option ℕ) (xs : List ℕ) → HaveEntries raw.tables → place_of (table_names raw.tables) name ≡ place
     → option_map (λ k. take (raw.horizon + 1) (get_or raw.tables k no_table).entries) place ≡ Some xs → LastsWithin raw.horizon xs
-named_lasts raw name None xs tables at is = cc
-named_lasts raw name (Some k) xs tables at is =
+named_lasts raw name None xs entered at is = cc
+named_lasts raw name (Some k) xs entered at is =
     let found = position-Some (bytes_eq name) (table_names raw.tables) k [] at in
     let inside : k < length raw.tables = omega (arith, found.0, length-map raw.tables (λ (t : TableRow). t.name)) in
     let entries = (get_or raw.tables k no_table).entries in
-    let some = (tables.within k no_table inside).some in
+    let some = entered k no_table inside in
     let size : length (take (raw.horizon + 1) (get_or raw.tables k no_table).entries) ≡ min (raw.horizon + 1) (length (get_or raw.tables k no_table).entries) = length-take (raw.horizon + 1) entries in
     subst (LastsWithin raw.horizon) (same_Some (take (raw.horizon + 1) entries) xs is) (record { some = omega (arith, size, some); short = omega (arith, size) })
 
@@ -39,10 +39,10 @@ shortest_lasts horizon lists arcs xs within shortest =
     let short = here.short in
     record { some = omega (arith, long, some); short = omega (arith, long, short) }
 
-pub bounded_lasts : (raw : RawNet) (lists : List (List ℕ)) (arcs : List ArcRow) (bound : Bound) (xs : List ℕ) → AreTableRows raw.tables
+pub bounded_lasts : (raw : RawNet) (lists : List (List ℕ)) (arcs : List ArcRow) (bound : Bound) (xs : List ℕ) → HaveEntries raw.tables
     → All (λ a. ExcessWithin raw.horizon (excess_at lists a.customer)) arcs → IsBounded raw lists arcs bound xs → LastsWithin raw.horizon xs
 unfolding named_excess
-bounded_lasts raw lists arcs (Named name) xs tables within is = named_lasts raw name (place_of (table_names raw.tables) name) xs tables refl is
-bounded_lasts raw lists arcs (Normal factor) xs tables within is = let long = is.long in record { some = omega (arith, long); short = omega (arith, long) }
-bounded_lasts raw lists arcs Sum xs tables within is = shortest_lasts raw.horizon lists arcs xs within is.long
-bounded_lasts raw lists arcs Pool xs tables within is = shortest_lasts raw.horizon lists arcs xs within is.long
+bounded_lasts raw lists arcs (Named name) xs entered within is = named_lasts raw name (place_of (table_names raw.tables) name) xs entered refl is
+bounded_lasts raw lists arcs (Normal factor) xs entered within is = let long = is.long in record { some = omega (arith, long); short = omega (arith, long) }
+bounded_lasts raw lists arcs Sum xs entered within is = shortest_lasts raw.horizon lists arcs xs within is.long
+bounded_lasts raw lists arcs Pool xs entered within is = shortest_lasts raw.horizon lists arcs xs within is.long

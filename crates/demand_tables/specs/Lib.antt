@@ -1,3 +1,4 @@
 pub mod Demand
 pub mod DemandFaults
+pub mod DemandNet
 pub mod Lookups

@@ -3,9 +3,9 @@ ghost use Rattle.std.specs.Prelude.{◌≡◌, ◌<◌, IfOk, IsSome, All, None,
 ghost use Rattle.std.specs.List.{list_any};
 ghost use Rattle.service_model.specs.Search.{first_of};
 ghost use Rattle.service_model.specs.Walks.{NoCycle};
-ghost use Rattle.stage_file.specs.Raw.{IsRawNet};
 ghost use Rattle.demand_tables.specs.Demand.{arcs_from, named_excess, ExcessWithin, IsExcess, IsOnlyExcess};
 ghost use Rattle.demand_tables.specs.DemandFaults.{bound_rules, supply_arc, turned, DemandCase, IsDemandOrder};
+ghost use Rattle.demand_tables.specs.DemandNet.{IsDemandNet};
 ghost use Rattle.demand_tables.specs.Lookups.{AreAnswered};
 
 use crate::bounds::{bound_fault, bounds_fault};
@@ -20,7 +20,7 @@ use std::alloc::Global;
 /// The excess demand of each stage, in units of stock from time 0 on, or the first rule that fails: a bound names no
 /// table, a bound asks for customers that there are not, or an excess demand is too large.
 pub fn tables_of(alloc: Global, raw: &RawNet) -> Result<List<List<u64>>, ReadFault>
-    requires read { IsRawNet raw.now }
+    requires net { IsDemandNet raw.now }
     requires acyclic { NoCycle (length raw.now.stages) (map supply_arc raw.now.arcs) }
     ensures value { DemandCase raw.now result }
     ensures only { IfOk result (IsOnlyExcess raw.now) }
@@ -36,7 +36,7 @@ pub fn tables_of(alloc: Global, raw: &RawNet) -> Result<List<List<u64>>, ReadFau
 
 // Again and again the lowest stage whose customers were all taken.
 fn demand_order(alloc: Global, raw: &RawNet) -> Result<List<u32>, NoMemory>
-    requires read { IsRawNet raw.now }
+    requires net { IsDemandNet raw.now }
     requires acyclic { NoCycle (length raw.now.stages) (map supply_arc raw.now.arcs) }
     ensures { IfOk result (IsDemandOrder raw.now) }
 {
@@ -63,7 +63,7 @@ fn excess_lists(
     lookups: &Lookups,
     order: &List<u32>,
 ) -> Result<List<List<u64>>, ReadFault>
-    requires read { IsRawNet lookups.now.raw.now }
+    requires net { IsDemandNet lookups.now.raw.now }
     requires bounds { first_of (bound_rules lookups.now.raw.now) ≡ None }
     requires order { IsDemandOrder lookups.now.raw.now order.now }
     ensures value { DemandCase lookups.now.raw.now result }

@@ -1,9 +1,8 @@
 // The records, with what is looked up in them.
 ghost use Rattle.std.specs.Prelude.{◌≡◌, ◌<◌, All, IfOk, [], length, option_map, replicate};
-ghost use Rattle.stage_file.specs.Tables.{AreTableRows};
-ghost use Rattle.stage_file.specs.Raw.{IsRawNet};
 ghost use Rattle.demand_tables.specs.Demand.{arcs_from, named_excess, table_names};
 ghost use Rattle.demand_tables.specs.DemandFaults.{lacks_table};
+ghost use Rattle.demand_tables.specs.DemandNet.{HaveOwnNames, IsDemandNet};
 ghost use Rattle.demand_tables.specs.Lookups.{HasArcs};
 
 use service_model::{List, NoMemory};
@@ -22,7 +21,7 @@ pub struct Lookups<'a> {
 
 impl<'a> Lookups<'a> {
     pub fn new(alloc: Global, raw: &'a RawNet) -> Result<Lookups<'a>, NoMemory>
-        requires { IsRawNet raw.now }
+        requires { IsDemandNet raw.now }
         ensures { IfOk result (λ lookups. lookups.raw.now ≡ raw.now) }
     {
         let tables = table_names(alloc, raw.tables.as_slice())?;
@@ -62,7 +61,7 @@ impl<'a> Lookups<'a> {
 
 // The names of the tables, by which their places are found.
 fn table_names(alloc: Global, tables: &[TableRow]) -> Result<Names, NoMemory>
-    requires { AreTableRows tables.now }
+    requires { HaveOwnNames tables.now }
     ensures { IfOk result (λ names. names ≡ table_names tables.now) }
 {
     let mut names = Names::new(alloc);

@@ -21,6 +21,7 @@ use Rattle.stage_file.proofs.TableLimits as table_limits
 use Rattle.stage_file.proofs.ArcLimits as arc_limits
 use Rattle.demand_tables.specs.DemandFaults.{bound_rules, excess_fault, IsExcessFault, IsDemandFault}
 use Rattle.demand_tables.proofs.ExcessLaws.{one_excess}
+use Rattle.demand_tables.proofs.NetFacts.{read_is_demand}
 use Rattle.network_check.specs.declared.checked.Checked.{Checked}
 use Rattle.network_check.specs.Checked.{supply_arcs, checked_from, IsNetworkOf}
 use Rattle.network_check.specs.Refusals.{cycle_fault, IsFirstTogether, IsFirstRefusal}
@@ -46,7 +47,7 @@ lowest_is_one stages arcs j k a b = elim (cases_lt j k) [
 -- the excess demands, and so the fault on them, are one
 one_excess_fault : (raw : RawNet) (a b : Option FileFault) → IsRawNet raw → NoCycle (length raw.stages) (supply_arcs raw) → IsExcessFault raw a → IsExcessFault raw b → a ≡ b
 one_excess_fault raw a b read acyclic is also =
-    let lists = one_excess raw is.lists also.lists read.arcs.within acyclic is.excess also.excess in
+    let lists = one_excess raw is.lists also.lists (read_is_demand raw read).ends acyclic is.excess also.excess in
     let order = one_order _ _ is.order also.order is.sorted also.sorted in
     is.first ∙ ap (λ (xs : List (List ℕ)). excess_fault raw xs is.order) lists ∙ ap (excess_fault raw also.lists) order ∙ sym also.first
 
@@ -84,5 +85,5 @@ no_cycle raw (Some j) cycle is = cc
 -- the network of records is one
 pub one_network_of : (raw : RawNet) (c d : Checked) → IsRawNet raw → IsFirstTogether raw None → IsNetworkOf raw c → IsNetworkOf raw d → c ≡ d
 one_network_of raw c d read none is also =
-    let lists = one_excess raw c.excess d.excess read.arcs.within (no_cycle raw none.0 none.1 none.2) is.excess also.excess in
+    let lists = one_excess raw c.excess d.excess (read_is_demand raw read).ends (no_cycle raw none.0 none.1 none.2) is.excess also.excess in
     is.made ∙ ap (checked_from raw) lists ∙ sym also.made

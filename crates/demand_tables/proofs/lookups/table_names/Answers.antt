@@ -5,4 +5,4 @@ use Rattle.demand_tables.proofs.lookups.table_names.Goals as goal
 pub push-requires : goal.push-requires
 push-requires c =
     let within : c.tables.table-index < length c.args.tables.now = search rules in
-    rw (c.tables.invariant, c.as_slice.ensures) (table_is_new c.args.tables.now c.tables.table-index c.table-item.result c.requires.distinct within c.table-item.is)
+    rw (c.tables.invariant, c.as_slice.ensures) (table_is_new c.args.tables.now c.tables.table-index c.table-item.result c.requires within c.table-item.is)

@@ -8,6 +8,7 @@ use Rattle.service_model.specs.Walks.{Leads, Walk}
 use Rattle.stage_file.specs.declared.arcs.ArcRow.{ArcRow}
 use Rattle.demand_tables.specs.DemandFaults.{supply_arc}
 use Rattle.demand_tables.proofs.ArcFacts.{no_arc_row}
+use Rattle.demand_tables.proofs.NetFacts.{read_is_demand}
 use Rattle.demand_tables.proofs.tests.demand_of.Goals as goal
 
 step : (arcs : List ArcRow) → All (λ a. a.supplier < a.customer) arcs → (i j : ℕ) → Leads (map supply_arc arcs) i j → i < j
@@ -19,6 +20,9 @@ step arcs up i j (k, inside, from, to) =
 climb : (arcs : List ArcRow) → All (λ a. a.supplier < a.customer) arcs → (n i j : ℕ) → Walk (map supply_arc arcs) i j n → i + n ≤ j
 climb arcs up zero i j walk = omega (arith, walk)
 climb arcs up (suc n) i j (m, walk, lead) = omega (arith, climb arcs up n i m walk, step arcs up m j lead)
+
+pub tables_of-requires-clause-net : goal.tables_of-requires-clause-net
+tables_of-requires-clause-net c = read_is_demand c.in_ok-raw.raw c.in_ok-raw.ensures.within
 
 pub tables_of-requires-clause-acyclic : goal.tables_of-requires-clause-acyclic
 tables_of-requires-clause-acyclic c = λ j low reaches.

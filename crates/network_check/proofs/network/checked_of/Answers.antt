@@ -1,8 +1,12 @@
 use Rattle.std.proofs.Common.{◌≡◌, refl}
 use Rattle.network_check.specs.declared.checked.Checked.{Checked}
 use Rattle.network_check.specs.Checked.{checked_from}
+use Rattle.demand_tables.proofs.NetFacts.{read_is_demand}
 use Rattle.network_check.proofs.TogetherFacts.{made_together}
 use Rattle.network_check.proofs.network.checked_of.Goals as goal
+
+pub tables_of-requires-clause-net : goal.tables_of-requires-clause-net
+tables_of-requires-clause-net c = read_is_demand c.args.raw.now c.requires.read
 
 pub returns : goal.returns
 returns c =
