@@ -36,7 +36,7 @@ struct Case<'a> {
     text: &'a str,
 }
 
-const CASES: [Case<'static>; 9] = [
+const CASES: [Case<'static>; 10] = [
     Case {
         name: "plain",
         horizon: "horizon=10",
@@ -99,6 +99,15 @@ const CASES: [Case<'static>; 9] = [
         arcs: "supplier,customer,quantity\nA,B,1\n",
         status: Status::Done,
         text: "optimal,11\nstage,inbound,outbound,time,stock,cost\nA,0,0,3,4,4\nB,0,0,2,7,7\nranges,1\nfilled,2\n",
+    },
+    Case {
+        name: "a lower cost at the end",
+        horizon: "horizon=5",
+        stages: "stage,lead,supply,least,most,bound,unit\nA,3,,,,a,1\nB,2,,,0,b,1\n",
+        tables: "table,x\na,0,2,3,4\nb,0,5,7,9,10,10\n",
+        arcs: "supplier,customer,quantity\nA,B,1\n",
+        status: Status::Done,
+        text: "optimal,10\nstage,inbound,outbound,time,stock,cost\nA,0,3,0,0,0\nB,3,0,5,10,10\nranges,1\nfilled,2\n",
     },
     Case {
         name: "the diamond",

@@ -1,5 +1,6 @@
 use crate::tests::run_over;
 use gsm_outside::SureSink;
+use std::alloc::Global;
 use std::test::Fail;
 
 const TABLES: &str = "table,x\nf,0,3,5\ng,0,4,5,6\ndown,7,4,1\ncut,2\n";
@@ -56,5 +57,46 @@ fn no_plan_of_a_small_tree_costs_less(rt: HostRuntime) -> Result<(), Fail> {
         run_over(alloc, "horizon=2", files, &mut out)?;
         assert!(rt; out.written().starts_with(first.as_bytes()), "{}", stages);
     }
+    Ok(())
+}
+
+// The rows of stages in a line, each the supplier of the next.
+fn line_of_stages(alloc: Global) -> Result<(String, String), Fail> {
+    let mut stages = String::from_str(alloc, "stage,lead,supply,least,most,bound,unit\n")?;
+    let mut arcs = String::from_str(alloc, "supplier,customer,quantity\n")?;
+    for k in 1..1001 {
+        stages.push_str(format!(in alloc; "s{k},0,,,,f,1\n")?.as_str())?;
+    }
+    for k in 1..1000 {
+        let next = k + 1;
+        arcs.push_str(format!(in alloc; "s{k},s{next},1\n")?.as_str())?;
+    }
+    Ok((stages, arcs))
+}
+
+#[test]
+fn a_line_of_a_thousand_stages_is_solved(rt: HostRuntime) -> Result<(), Fail> {
+    let alloc = rt.alloc();
+    let (stages, arcs) = line_of_stages(alloc)?;
+    let mut out = SureSink::new(alloc);
+    let files = [stages.as_str(), TABLES, arcs.as_str()];
+    run_over(alloc, "horizon=2", files, &mut out)?;
+    assert!(rt; out.written().starts_with(b"optimal,0\n"));
+    assert!(rt; out.written().ends_with(b"ranges,1\nfilled,1000\n"));
+    Ok(())
+}
+
+#[test]
+fn either_of_two_least_plans_may_come(rt: HostRuntime) -> Result<(), Fail> {
+    let alloc = rt.alloc();
+    let mut out = SureSink::new(alloc);
+    let files = [
+        "stage,lead,supply,least,most,bound,unit\nA,3,,,,a,1\nB,2,,,0,b,1\n",
+        "table,x\na,0,2,3,4\nb,0,5,7,9,10,11\n",
+        "supplier,customer,quantity\nA,B,1\n",
+    ];
+    run_over(alloc, "horizon=5", files, &mut out)?;
+    assert!(rt; out.written().starts_with(b"optimal,11\n"));
+    assert!(rt; out.written().ends_with(b"ranges,1\nfilled,2\n"));
     Ok(())
 }
