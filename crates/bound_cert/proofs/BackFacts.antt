@@ -18,7 +18,8 @@ use Rattle.bound_cert.specs.Lines.{whole, wholes, kind_number, outcome_number, p
 use Rattle.bound_cert.specs.Refusals.{◌>>=◌}
 use Rattle.bound_cert.specs.Fields.{whole_in, kind_in, outcome_in, tag_in, field, wholes_among, wholes_in, plan_among, plan_in}
 use Rattle.bound_cert.specs.Reading.{head_among, limits_among, lists_among, table_among, node_among, split_among, end_among, line_in, line_from}
-use Rattle.bound_cert.specs.Laws.{HasSeen, line_with, ReadsBack}
+use Rattle.bound_cert.specs.Order.{HasSeen, line_with}
+use Rattle.bound_cert.specs.Laws.{ReadsBack}
 use Rattle.bound_cert.proofs.ExactFacts.{IsExact, AreExact, printable_from, utf8_written, read_written}
 use Rattle.bound_cert.proofs.ReadFacts.{value_here}
 

@@ -3,6 +3,8 @@ mod ReadFacts
 mod ExactFacts
 mod FeedFacts
 mod EndFacts
+mod RangeFacts
 pub mod BackFacts
+pub mod OrderFacts
 pub mod StreamFacts
 pub mod WholeFacts

@@ -6,4 +6,5 @@ pub mod Stream
 pub mod Steps
 pub mod Feeding
 pub mod Reader
+pub mod Order
 pub mod Laws
