@@ -111,6 +111,11 @@ impl Taker<Vec<u8>> for Scribe {
     }
 }
 
+// What a reader answers to bytes whose items are all taken.
+fn taken(alloc: Global, bytes: &[u8]) -> Result<(), FeedStop> {
+    fed(alloc, bytes, 7, &mut Collector::new(alloc), &mut ())
+}
+
 // What a reader answers to the lines, of which one is another.
 fn answer(alloc: Global, damage: Damage) -> Result<Result<(), FeedStop>, AllocError> {
     let (line, text, _) = damage;
@@ -119,7 +124,7 @@ fn answer(alloc: Global, damage: Damage) -> Result<Result<(), FeedStop>, AllocEr
         lines[line - 1] = text;
     }
     let bytes = joined(alloc, &lines)?;
-    Ok(fed(alloc, &bytes, 7, &mut Collector::new(alloc), &mut ()))
+    Ok(taken(alloc, &bytes))
 }
 
 fn fault(line: usize, rule: u8) -> Result<(), FeedStop> {
@@ -170,24 +175,14 @@ fn the_first_rule_that_a_damaged_line_breaks_is_named(rt: HostRuntime) -> Result
 #[test]
 fn an_end_closes_the_lines(rt: HostRuntime) -> Result<(), Fail> {
     let alloc = rt.alloc();
-    let bytes = joined(alloc, &DIAMOND)?;
     let unended = joined(alloc, &DIAMOND.as_slice()[..15])?;
+    let mut unfed = joined(alloc, &DIAMOND)?;
+    let _line_feed = unfed.pop();
     let mut twice = joined(alloc, &DIAMOND)?;
     twice.extend_from_slice(DIAMOND[15].as_bytes())?;
-    let mut collector = Collector::new(alloc);
-    assert_eq!(rt;
-        fed(alloc, &bytes[..bytes.len() - 1], 7, &mut collector, &mut ()),
-        Ok(()),
-        "no last line feed"
-    );
-    assert_eq!(rt;
-        fed(alloc, &unended, 7, &mut Collector::new(alloc), &mut ()),
-        fault(16, NO_END)
-    );
-    assert_eq!(rt;
-        fed(alloc, &twice, 7, &mut Collector::new(alloc), &mut ()),
-        fault(17, AFTER_END)
-    );
+    assert_eq!(rt; taken(alloc, &unended), fault(16, NO_END));
+    assert_eq!(rt; taken(alloc, &unfed), Ok(()), "no last line feed");
+    assert_eq!(rt; taken(alloc, &twice), fault(17, AFTER_END));
     Ok(())
 }
 
