@@ -1,0 +1,32 @@
+// Laws of certificate lines, each the contract of a function that does nothing.
+ghost use Rattle.bound_cert.specs.Laws.{ReadsBack, LinesBack, WholeBack, ReadInOrder, EndInOrder, AnyCut};
+
+/// The line of an item reads back as the item.
+pub fn reads_back()
+    ensures { ReadsBack }
+{}
+
+/// The lines of items in order read back as the items.
+pub fn lines_back()
+    ensures { LinesBack }
+{}
+
+/// With an end among the items, the end of their bytes gives no fault.
+pub fn whole_back()
+    ensures { WholeBack }
+{}
+
+/// The items that bytes give are in order.
+pub fn read_in_order()
+    ensures { ReadInOrder }
+{}
+
+/// The item that the end of the bytes gives is in order.
+pub fn end_in_order()
+    ensures { EndInOrder }
+{}
+
+/// What bytes give does not depend on how they are cut.
+pub fn any_cut()
+    ensures { AnyCut }
+{}
