@@ -1,0 +1,77 @@
+-- The lines of items in order read back as the items.
+use Rattle.std.proofs.Common.{◌≡◌, ℕ, ◌+◌, ◌<◌, ◌≤◌, List, [], ◌∷◌, ◌++◌, length, flat_map, Result, Ok, Err, refl, sym, ap, ◌∙◌, arith, append_assoc, append-nil, length-append, ne_eqb, lt-ltb}
+use Rattle.service_model.specs.declared.cert.Item.{Item}
+use Rattle.service_model.specs.declared.cert.Item.TheVariants.{Head as HeadItem, Table as TableItem, Node as NodeItem, Split as SplitItem, End as EndItem}
+use Rattle.bound_cert.specs.declared.limits.TheConstants.{MAX_LINE}
+use Rattle.bound_cert.specs.Lines.{data_of, text_of, line_of}
+use Rattle.bound_cert.specs.Stream.{Place, Step, reads, read_byte, line_done, with_line, with_rule, go_on, behind, after_item, broken_rule}
+use Rattle.bound_cert.specs.Laws.{line_with, MayCome, LinesBack}
+use Rattle.bound_cert.proofs.ExactFacts.{IsPrintable, text_printable}
+use Rattle.bound_cert.proofs.BackFacts.{exact_item, reads_back}
+
+-- the place with other bytes begun
+abbrev begun_with : Place → List ℕ → Place
+begun_with p bytes = record p { begun = bytes }
+
+one_more : (p : Place) (b : ℕ) → 32 ≤ b → length p.begun < MAX_LINE → read_byte p b ≡ Ok ([], begun_with p (p.begun ++ b ∷ []))
+unfolding read_byte
+one_more p b printable room = let other : b ≡ 10 → ⊥ = λ e. omega arith in rw (ne_eqb b 10 other, lt-ltb _ _ room)
+
+line_feed_ends : (p : Place) → read_byte p 10 ≡ line_done p
+unfolding read_byte
+line_feed_ends p = refl
+
+-- the printable bytes of a line are begun one after another, and its line feed makes it whole
+bytes_of_line : (text rest : List ℕ) (p : Place) → IsPrintable text → length p.begun + length text ≤ MAX_LINE
+    → reads (text ++ 10 ∷ rest) p ≡ go_on (reads rest) (line_done (begun_with p (p.begun ++ text)))
+bytes_of_line [] rest p plain room =
+    ap (go_on (reads rest)) (line_feed_ends p)
+    ∙ ap (λ (bs : List ℕ). go_on (reads rest) (line_done (begun_with p bs))) (sym (append-nil p.begun))
+bytes_of_line (b ∷ text) rest p plain room =
+    let q = begun_with p (p.begun ++ b ∷ []) in
+    let fits : length p.begun < MAX_LINE = omega arith in
+    let fits_on : length (p.begun ++ b ∷ []) + length text ≤ MAX_LINE = omega (arith, length-append p.begun (b ∷ [])) in
+    ap (go_on (reads (text ++ 10 ∷ rest))) (one_more p b plain.0 fits)
+    ∙ bytes_of_line text rest q plain.2 fits_on
+    ∙ ap (λ (bs : List ℕ). go_on (reads rest) (line_done (begun_with p bs))) (append_assoc p.begun (b ∷ []) text)
+
+-- the rules on a line and the place behind it do not look at the bytes begun
+same_rule : (p : Place) (bytes : List ℕ) (x : Item) → broken_rule (begun_with p bytes) (line_with x) ≡ broken_rule p (line_with x)
+same_rule p bytes (HeadItem h) = refl
+same_rule p bytes (TableItem t) = refl
+same_rule p bytes (NodeItem x) = refl
+same_rule p bytes (SplitItem s) = refl
+same_rule p bytes (EndItem v) = refl
+
+same_after : (p : Place) (bytes : List ℕ) (x : Item) → after_item (begun_with p bytes) x ≡ after_item p x
+same_after p bytes (HeadItem h) = refl
+same_after p bytes (TableItem t) = refl
+same_after p bytes (NodeItem x) = refl
+same_after p bytes (SplitItem s) = refl
+same_after p bytes (EndItem v) = refl
+
+none_begun : (p : Place) (x : Item) → (after_item p x).begun ≡ []
+none_begun p (HeadItem h) = refl
+none_begun p (TableItem t) = refl
+none_begun p (NodeItem x) = refl
+none_begun p (SplitItem s) = refl
+none_begun p (EndItem v) = refl
+
+item_line : (p : Place) (x : Item) → MayCome p x → line_done (begun_with p (text_of x)) ≡ Ok (x ∷ [], after_item p x)
+unfolding line_done
+item_line p x may =
+    let q = begun_with p (text_of x) in
+    ap (with_line q) (reads_back p.tables x may.in_range may.seen)
+    ∙ ap (with_rule q x) (same_rule p (text_of x) x ∙ may.in_order)
+    ∙ ap (λ (r : Place). let s : Step = Ok (x ∷ [], r) in s) (same_after p (text_of x) x)
+
+pub lines_back : LinesBack
+lines_back [] p none may = refl
+lines_back (x ∷ items) p none (may, later) =
+    let room : length p.begun + length (text_of x) ≤ MAX_LINE = rw none (omega (arith, may.short)) in
+    let rest = flat_map line_of items in
+    ap (λ (bs : List ℕ). reads bs p) (append_assoc (text_of x) (10 ∷ []) rest)
+    ∙ bytes_of_line (text_of x) rest p (text_printable 3 (data_of x) (exact_item x may.in_range)) room
+    ∙ ap (λ (bs : List ℕ). go_on (reads rest) (line_done (begun_with p (bs ++ text_of x)))) none
+    ∙ ap (go_on (reads rest)) (item_line p x may)
+    ∙ ap (behind (x ∷ [])) (lines_back items (after_item p x) (none_begun p x) later)

@@ -1,0 +1,9 @@
+pub mod Lines
+pub mod Refusals
+pub mod Fields
+pub mod Reading
+pub mod Stream
+pub mod Steps
+pub mod Feeding
+pub mod Reader
+pub mod Laws

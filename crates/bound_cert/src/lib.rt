@@ -1,0 +1,20 @@
+//! The lines of certificates: written from items, and read back in whatever pieces the bytes come.
+#![tactic(auto)]
+
+mod fault;
+mod feed;
+mod fields;
+mod laws;
+mod limits;
+mod line;
+mod read;
+mod reader;
+mod stream;
+mod values;
+mod write;
+
+pub use fault::{CertFault, FeedStop};
+pub use laws::{any_cut, lines_back, reads_back};
+pub use limits::{FORMAT, MAX_LINE};
+pub use reader::CertReader;
+pub use write::line_of;
