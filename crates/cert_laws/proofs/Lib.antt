@@ -1,0 +1,3 @@
+pub mod CutFacts
+pub mod HalfFacts
+pub mod LeafFacts

@@ -1,0 +1,20 @@
+-- The laws over certificates.
+use Rattle.std.specs.Prelude.{ℕ, ◌≤◌, List, length}
+use Rattle.service_model.specs.declared.plan.Plan.{Plan}
+use Rattle.service_model.specs.declared.table.Table.{Table}
+use Rattle.service_model.specs.Net.{Net}
+use Rattle.service_model.specs.Plans.{Feasible, cost_of}
+use Rattle.service_model.specs.Customers.{HasEnds}
+use Rattle.service_model.specs.Tables.{Sound}
+use Rattle.service_model.specs.CertRanges.{Cut, AreCuts, AreNodes, IsOnlyLeaf}
+use Rattle.service_model.specs.Verdicts.{BoundsLeaves}
+
+-- each feasible plan lies in the range of exactly one leaf
+abbrev pub LeafLaw : Type 0
+LeafLaw = (n : Net) (cuts : List Cut) (p : Plan) → AreCuts n cuts → Feasible n p → (k : ℕ) × IsOnlyLeaf n cuts p k
+
+-- a number that is above no leaf's bound is above the cost of no feasible plan
+abbrev pub LeastBoundLaw : Type 0
+LeastBoundLaw = (n : Net) (tables : List Table) (roots : List (List ℕ)) (cuts : List Cut) (b : ℕ) (p : Plan)
+    → HasEnds (length n.stages) n.arcs → Sound n tables → AreCuts n cuts → AreNodes n tables roots cuts
+    → BoundsLeaves tables roots cuts b → Feasible n p → b ≤ cost_of n p
