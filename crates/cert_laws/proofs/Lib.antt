@@ -1,3 +1,5 @@
 pub mod CutFacts
 pub mod HalfFacts
 pub mod LeafFacts
+pub mod FoundFacts
+pub mod RepairFacts

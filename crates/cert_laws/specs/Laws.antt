@@ -1,12 +1,14 @@
 -- The laws over certificates.
-use Rattle.std.specs.Prelude.{ℕ, ◌≤◌, List, length}
+use Rattle.std.specs.Prelude.{◌≡◌, ℕ, ◌≤◌, List, [], ◌∷◌, ◌++◌, length, Option}
 use Rattle.service_model.specs.declared.plan.Plan.{Plan}
 use Rattle.service_model.specs.declared.table.Table.{Table}
 use Rattle.service_model.specs.Net.{Net}
 use Rattle.service_model.specs.Plans.{Feasible, cost_of}
 use Rattle.service_model.specs.Customers.{HasEnds}
+use Rattle.service_model.specs.Orders.{IsTopological}
 use Rattle.service_model.specs.Tables.{Sound}
 use Rattle.service_model.specs.CertRanges.{Cut, AreCuts, AreNodes, IsOnlyLeaf}
+use Rattle.service_model.specs.Repairs.{Repair, IsRepair, Found, FoundOf, better}
 use Rattle.service_model.specs.Verdicts.{BoundsLeaves}
 
 -- each feasible plan lies in the range of exactly one leaf
@@ -18,3 +20,18 @@ abbrev pub LeastBoundLaw : Type 0
 LeastBoundLaw = (n : Net) (tables : List Table) (roots : List (List ℕ)) (cuts : List Cut) (b : ℕ) (p : Plan)
     → HasEnds (length n.stages) n.arcs → Sound n tables → AreCuts n cuts → AreNodes n tables roots cuts
     → BoundsLeaves tables roots cuts b → Feasible n p → b ≤ cost_of n p
+
+-- with one node more the plan found is the better one of the plan found before and the node's own
+abbrev pub FoundMoreLaw : Type 0
+FoundMoreLaw = (n : Net) (relaxed : List (Option Plan)) (next old new : Option Plan) → Found n relaxed old → FoundOf n next new
+    → Found n (relaxed ++ next ∷ []) (better n old new)
+
+-- a repair of a plan is one plan, where the network has an order
+abbrev pub RepairLaw : Type 0
+RepairLaw = (n : Net) (order : List ℕ) (kind : Repair) (q a b : Plan) → IsTopological (length n.stages) n.arcs order
+    → IsRepair kind n q a → IsRepair kind n q b → a ≡ b
+
+-- the plan found is one plan, where the network has an order
+abbrev pub FoundOneLaw : Type 0
+FoundOneLaw = (n : Net) (order : List ℕ) (relaxed : List (Option Plan)) (a b : Option Plan) → IsTopological (length n.stages) n.arcs order
+    → Found n relaxed a → Found n relaxed b → a ≡ b

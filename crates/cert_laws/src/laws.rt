@@ -1,5 +1,5 @@
 // The laws, each as the contract of a call that does nothing.
-ghost use Rattle.cert_laws.specs.Laws.{LeafLaw, LeastBoundLaw};
+ghost use Rattle.cert_laws.specs.Laws.{LeafLaw, LeastBoundLaw, FoundMoreLaw, RepairLaw, FoundOneLaw};
 
 /// Each feasible plan lies in the range of exactly one leaf.
 pub fn leaf_law()
@@ -9,4 +9,19 @@ pub fn leaf_law()
 /// A number that is above no leaf's bound is above the cost of no feasible plan.
 pub fn least_bound_law()
     ensures { LeastBoundLaw }
+{}
+
+/// With one node more the plan found is the better one of the plan found before and the node's own.
+pub fn found_more_law()
+    ensures { FoundMoreLaw }
+{}
+
+/// Each repair of a plan is one plan, where the network has an order.
+pub fn repair_law()
+    ensures { RepairLaw }
+{}
+
+/// The plan found is one plan, where the network has an order.
+pub fn found_one_law()
+    ensures { FoundOneLaw }
 {}
