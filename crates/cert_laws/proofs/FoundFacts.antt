@@ -1,12 +1,12 @@
 -- The plan found grows node by node.
-use Rattle.std.proofs.Common.{◌≡◌, ℕ, ◌+◌, ◌*◌, ◌<◌, ◌≤◌, Bool, true, false, cond, List, [], ◌∷◌, ◌++◌, length, Option, Some, None, refl, sym, ◌∙◌, subst, inl, inr, ⊎_elim, arith}
+use Rattle.std.proofs.Common.{◌≡◌, ℕ, ◌<◌, ◌≤◌, Bool, true, false, cond, List, [], ◌∷◌, ◌++◌, length, Option, Some, None, refl, sym, ◌∙◌, subst, inl, inr, ⊎_elim, arith}
 use Rattle.std.specs.Prelude.{nat_lt, ◌⊎◌}
-use Rattle.std.proofs.lemmas.Bool.{cases_eq, cases_lt, ltb-true, ltb-false}
+use Rattle.std.proofs.lemmas.Bool.{cases_lt, ltb-true, ltb-false}
 use Rattle.std.proofs.lemmas.List.{length_push, get_or_append_left, get_or_push, get_or_past}
 use Rattle.service_model.specs.declared.plan.Plan.{Plan}
 use Rattle.service_model.specs.Net.{Net}
 use Rattle.service_model.specs.Plans.{cost_of}
-use Rattle.service_model.specs.Repairs.{Repair, Raise, Lower, Shift, IsCandidateOf, IsCandidate, turn, IsFound, Found, IsFoundOf, FoundOf}
+use Rattle.service_model.specs.Repairs.{Repair, Raise, Lower, Shift, IsCandidateOf, IsCandidate, turn, IsFound, Found, IsFoundOf}
 use Rattle.cert_laws.specs.Laws.{FoundMoreLaw}
 
 pub turn_low : (kind : Repair) → turn kind < 3

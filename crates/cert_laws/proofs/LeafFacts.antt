@@ -1,19 +1,15 @@
 -- A feasible plan lies in the range of exactly one leaf.
 use Rattle.std.proofs.Common.{◌≡◌, ◌≢◌, ℕ, ◌+◌, ◌*◌, ◌<◌, ◌≤◌, List, [], ◌∷◌, ◌++◌, length, refl, sym, ap, ◌∙◌, subst, inl, inr, ⊎_elim, arith}
 use Rattle.std.specs.Prelude.{All, ◌⊎◌}
-use Rattle.std.specs.List.{AllByRecursion}
 use Rattle.std.proofs.lemmas.Bool.{cases_eq, cases_lt}
 use Rattle.std.proofs.lemmas.List.{get_or_append_left, get_or_push, get_or-map}
 use Rattle.std.proofs.lemmas.List.Elements.{All-push, recursion_from_All}
 use Rattle.service_model.specs.declared.plan.Plan.{Plan}
-use Rattle.service_model.specs.declared.range.Range.{Range}
-use Rattle.service_model.specs.declared.table.Table.{Table}
 use Rattle.service_model.specs.Net.{Net, no_stage}
 use Rattle.service_model.specs.Plans.{Feasible, outbound_at}
 use Rattle.service_model.specs.Ranges.{ended, started, IsIn}
-use Rattle.service_model.specs.Tables.{Sound}
 use Rattle.service_model.specs.Nodes.{AreSoundBelow}
-use Rattle.service_model.specs.CertRanges.{Cut, node_range, IsLeaf, IsCut, AreCuts, IsOnlyLeaf}
+use Rattle.service_model.specs.CertRanges.{Cut, node_range, IsLeaf, IsCut, IsOnlyLeaf}
 use Rattle.gsm_laws.proofs.ElementFacts.{each}
 use Rattle.gsm_laws.proofs.BelowFacts.{sound_everywhere}
 use Rattle.gsm_laws.proofs.NodeFacts.{node_law}

@@ -3,3 +3,4 @@ pub mod HalfFacts
 pub mod LeafFacts
 pub mod FoundFacts
 pub mod RepairFacts
+pub mod TruthFacts

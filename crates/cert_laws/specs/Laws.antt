@@ -2,14 +2,16 @@
 use Rattle.std.specs.Prelude.{◌≡◌, ℕ, ◌≤◌, List, [], ◌∷◌, ◌++◌, length, Option}
 use Rattle.service_model.specs.declared.plan.Plan.{Plan}
 use Rattle.service_model.specs.declared.table.Table.{Table}
+use Rattle.service_model.specs.declared.cert.Verdict.{Verdict}
 use Rattle.service_model.specs.Net.{Net}
 use Rattle.service_model.specs.Plans.{Feasible, cost_of}
+use Rattle.service_model.specs.Faults.{IsNetwork}
 use Rattle.service_model.specs.Customers.{HasEnds}
 use Rattle.service_model.specs.Orders.{IsTopological}
 use Rattle.service_model.specs.Tables.{Sound}
 use Rattle.service_model.specs.CertRanges.{Cut, AreCuts, AreNodes, IsOnlyLeaf}
 use Rattle.service_model.specs.Repairs.{Repair, IsRepair, Found, FoundOf, better}
-use Rattle.service_model.specs.Verdicts.{BoundsLeaves}
+use Rattle.service_model.specs.Verdicts.{BoundsLeaves, Searched, IsEnding, IsTrueOf}
 
 -- each feasible plan lies in the range of exactly one leaf
 abbrev pub LeafLaw : Type 0
@@ -35,3 +37,8 @@ RepairLaw = (n : Net) (order : List ℕ) (kind : Repair) (q a b : Plan) → IsTo
 abbrev pub FoundOneLaw : Type 0
 FoundOneLaw = (n : Net) (order : List ℕ) (relaxed : List (Option Plan)) (a b : Option Plan) → IsTopological (length n.stages) n.arcs order
     → Found n relaxed a → Found n relaxed b → a ≡ b
+
+-- the ending of a search whose tables are sound, whose splits cut its leaves, and whose nodes fit their ranges is true of the network
+abbrev pub TrueLaw : Type 0
+TrueLaw = (n : Net) (s : Searched) (budget : ℕ) (v : Verdict) → IsNetwork n → Sound n s.tables → AreCuts n s.cuts
+    → AreNodes n s.tables s.roots s.cuts → IsEnding n s budget v → IsTrueOf n v

@@ -1,5 +1,5 @@
 // The laws, each as the contract of a call that does nothing.
-ghost use Rattle.cert_laws.specs.Laws.{LeafLaw, LeastBoundLaw, FoundMoreLaw, RepairLaw, FoundOneLaw};
+ghost use Rattle.cert_laws.specs.Laws.{LeafLaw, LeastBoundLaw, FoundMoreLaw, RepairLaw, FoundOneLaw, TrueLaw};
 
 /// Each feasible plan lies in the range of exactly one leaf.
 pub fn leaf_law()
@@ -24,4 +24,10 @@ pub fn repair_law()
 /// The plan found is one plan, where the network has an order.
 pub fn found_one_law()
     ensures { FoundOneLaw }
+{}
+
+/// The ending of a search is true of the network, where its tables are sound, its splits cut its leaves and its nodes
+/// fit their ranges.
+pub fn true_law()
+    ensures { TrueLaw }
 {}

@@ -3,4 +3,4 @@
 
 mod laws;
 
-pub use laws::{found_more_law, found_one_law, leaf_law, least_bound_law, repair_law};
+pub use laws::{found_more_law, found_one_law, leaf_law, least_bound_law, repair_law, true_law};
