@@ -3,4 +3,5 @@ pub mod HalfFacts
 pub mod LeafFacts
 pub mod FoundFacts
 pub mod RepairFacts
+pub mod GrowFacts
 pub mod TruthFacts

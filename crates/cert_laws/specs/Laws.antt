@@ -1,6 +1,7 @@
 -- The laws over certificates.
 use Rattle.std.specs.Prelude.{◌≡◌, ℕ, ◌≤◌, List, [], ◌∷◌, ◌++◌, length, Option}
 use Rattle.service_model.specs.declared.plan.Plan.{Plan}
+use Rattle.service_model.specs.declared.range.Range.{Range}
 use Rattle.service_model.specs.declared.table.Table.{Table}
 use Rattle.service_model.specs.declared.cert.Verdict.{Verdict}
 use Rattle.service_model.specs.Net.{Net}
@@ -9,9 +10,11 @@ use Rattle.service_model.specs.Faults.{IsNetwork}
 use Rattle.service_model.specs.Customers.{HasEnds}
 use Rattle.service_model.specs.Orders.{IsTopological}
 use Rattle.service_model.specs.Tables.{Sound}
+use Rattle.service_model.specs.Nodes.{IsNode}
 use Rattle.service_model.specs.CertRanges.{Cut, AreCuts, AreNodes, IsOnlyLeaf}
 use Rattle.service_model.specs.Repairs.{Repair, IsRepair, Found, FoundOf, better}
 use Rattle.service_model.specs.Verdicts.{BoundsLeaves, Searched, IsEnding, IsTrueOf}
+use Rattle.service_model.specs.CertRules.{TableRule}
 
 -- each feasible plan lies in the range of exactly one leaf
 abbrev pub LeafLaw : Type 0
@@ -37,6 +40,15 @@ RepairLaw = (n : Net) (order : List ℕ) (kind : Repair) (q a b : Plan) → IsTo
 abbrev pub FoundOneLaw : Type 0
 FoundOneLaw = (n : Net) (order : List ℕ) (relaxed : List (Option Plan)) (a b : Option Plan) → IsTopological (length n.stages) n.arcs order
     → Found n relaxed a → Found n relaxed b → a ≡ b
+
+-- a table on which no rule fails leaves the tables sound
+abbrev pub TableMoreLaw : Type 0
+TableMoreLaw = (n : Net) (tables : List Table) (t : Table) → Sound n tables → ((rule : ℕ) → TableRule n tables t rule) → Sound n (tables ++ t ∷ [])
+
+-- later tables leave a node as it is
+abbrev pub NodeStaysLaw : Type 0
+NodeStaysLaw = (n : Net) (tables more : List Table) (r : Range) (roots : List ℕ) → Sound n tables → IsNode n tables r roots
+    → IsNode n (tables ++ more) r roots
 
 -- the ending of a search whose tables are sound, whose splits cut its leaves, and whose nodes fit their ranges is true of the network
 abbrev pub TrueLaw : Type 0

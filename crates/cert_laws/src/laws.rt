@@ -1,5 +1,5 @@
 // The laws, each as the contract of a call that does nothing.
-ghost use Rattle.cert_laws.specs.Laws.{LeafLaw, LeastBoundLaw, FoundMoreLaw, RepairLaw, FoundOneLaw, TrueLaw};
+ghost use Rattle.cert_laws.specs.Laws.{LeafLaw, LeastBoundLaw, FoundMoreLaw, RepairLaw, FoundOneLaw, TableMoreLaw, NodeStaysLaw, TrueLaw};
 
 /// Each feasible plan lies in the range of exactly one leaf.
 pub fn leaf_law()
@@ -24,6 +24,16 @@ pub fn repair_law()
 /// The plan found is one plan, where the network has an order.
 pub fn found_one_law()
     ensures { FoundOneLaw }
+{}
+
+/// A table on which no rule fails leaves the tables sound.
+pub fn table_more_law()
+    ensures { TableMoreLaw }
+{}
+
+/// Later tables leave a node as it is.
+pub fn node_stays_law()
+    ensures { NodeStaysLaw }
 {}
 
 /// The ending of a search is true of the network, where its tables are sound, its splits cut its leaves and its nodes

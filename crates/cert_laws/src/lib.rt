@@ -3,4 +3,7 @@
 
 mod laws;
 
-pub use laws::{found_more_law, found_one_law, leaf_law, least_bound_law, repair_law, true_law};
+pub use laws::{
+    found_more_law, found_one_law, leaf_law, least_bound_law, node_stays_law, repair_law,
+    table_more_law, true_law,
+};
