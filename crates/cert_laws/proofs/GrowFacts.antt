@@ -6,12 +6,11 @@ use Rattle.std.proofs.lemmas.Bool.{cases_lt}
 use Rattle.std.proofs.lemmas.List.{length-append, length_push, get_or_append_left, get_or_push}
 use Rattle.std.proofs.lemmas.List.Sums.{sum_by-cons}
 use Rattle.std.proofs.lemmas.List.Elements.{recursion_from_All, All-from_recursion}
-use Rattle.service_model.specs.declared.cert_rules.TheConstants.{TABLE, CHILD, CHILD_ARC, LOCAL}
 use Rattle.service_model.specs.declared.table.Table.{Table}
 use Rattle.service_model.specs.Net.{Net}
 use Rattle.service_model.specs.Tables.{no_table, table_at, least_below, Local, IsChild, IsShaped, Sound}
 use Rattle.service_model.specs.Nodes.{below, below_within, below_roots, IsSoundAt, Fits, IsOnce}
-use Rattle.service_model.specs.CertRules.{TableRule}
+use Rattle.service_model.specs.CertRules.{IsTable}
 use Rattle.gsm_laws.proofs.ElementFacts.{each, each_two, all_concat, flat_map_same}
 use Rattle.gsm_laws.proofs.BelowFacts.{sound_everywhere}
 use Rattle.cert_laws.specs.Laws.{TableMoreLaw, NodeStaysLaw}
@@ -71,35 +70,37 @@ old_table n tables more i sound within =
       lower = local_agree n tables (tables ++ more) (table_at tables i) agree (sound.lower i within);
     }
 
-new_table : (n : Net) (tables : List Table) (t : Table) → ((rule : ℕ) → TableRule n tables t rule) → SoundTable n (tables ++ t ∷ []) (length tables) t
-new_table n tables t keep =
-    let earlier = keep CHILD in
+new_table : (n : Net) (tables : List Table) (t : Table) → IsTable n t → All (λ c. c < length tables) t.children
+    → All (λ c. IsChild (table_at tables c).kind n.arcs (table_at tables c).stage t.stage) t.children → Local n tables t
+    → SoundTable n (tables ++ t ∷ []) (length tables) t
+new_table n tables t table earlier children local =
     let agree = agree_more tables (t ∷ []) t.children (recursion_from_All (λ c. c < length tables) t.children earlier) in
-    let table = keep TABLE in
     record {
       shaped = record {
         sized = table.sized;
         earlier = earlier;
-        children = children_agree n tables (tables ++ t ∷ []) t.stage t.children agree (keep CHILD_ARC);
+        children = children_agree n tables (tables ++ t ∷ []) t.stage t.children agree children;
       };
-      lower = local_agree n tables (tables ++ t ∷ []) t agree (keep LOCAL);
+      lower = local_agree n tables (tables ++ t ∷ []) t agree local;
     }
 
-each_table : (n : Net) (tables : List Table) (t : Table) → Sound n tables → ((rule : ℕ) → TableRule n tables t rule) → (i : ℕ)
+each_table : (n : Net) (tables : List Table) (t : Table) → Sound n tables → SoundTable n (tables ++ t ∷ []) (length tables) t → (i : ℕ)
     → i < length (tables ++ t ∷ []) → SoundTable n (tables ++ t ∷ []) i (table_at (tables ++ t ∷ []) i)
-each_table n tables t sound keep i within = ⊎_elim
+each_table n tables t sound new i within = ⊎_elim
     (λ old. subst (SoundTable n (tables ++ t ∷ []) i) (sym (get_or_append_left tables (t ∷ []) no_table i old)) (old_table n tables (t ∷ []) i sound old))
     (λ late.
     let last : length tables ≡ i = omega (arith, length_push tables t) in
     subst (SoundTable n (tables ++ t ∷ []) i) (sym (get_or_push tables t no_table i last))
-    (subst (λ k. SoundTable n (tables ++ t ∷ []) k t) last (new_table n tables t keep)))
+    (subst (λ k. SoundTable n (tables ++ t ∷ []) k t) last new))
     (cases_lt i (length tables))
 
 pub table_more_law : TableMoreLaw
-table_more_law n tables t sound keep = record {
-  shaped = λ i within. (each_table n tables t sound keep i within).shaped;
-  lower = λ i within. (each_table n tables t sound keep i within).lower;
-}
+table_more_law n tables t sound table earlier children local =
+    let new = new_table n tables t table earlier children local in
+    record {
+      shaped = λ i within. (each_table n tables t sound new i within).shaped;
+      lower = λ i within. (each_table n tables t sound new i within).lower;
+    }
 
 -- ---- nodes
 below_grown : (n : Net) (tables more : List Table) → Sound n tables → (steps i : ℕ) → i < length tables

@@ -5,3 +5,7 @@ pub mod FoundFacts
 pub mod RepairFacts
 pub mod GrowFacts
 pub mod TruthFacts
+pub mod FloorFacts
+pub mod SplitFacts
+pub mod ItemFacts
+pub mod CheckFacts

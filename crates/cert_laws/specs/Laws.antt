@@ -1,20 +1,26 @@
 -- The laws over certificates.
-use Rattle.std.specs.Prelude.{◌≡◌, ℕ, ◌≤◌, List, [], ◌∷◌, ◌++◌, length, Option}
+use Rattle.std.specs.Prelude.{◌≡◌, ℕ, ◌<◌, ◌≤◌, List, [], ◌∷◌, ◌++◌, length, Option, Some}
+use Rattle.service_model.specs.declared.cert_rules.TheConstants.{TABLE, CHILD, CHILD_ARC, LOCAL}
 use Rattle.service_model.specs.declared.plan.Plan.{Plan}
 use Rattle.service_model.specs.declared.range.Range.{Range}
 use Rattle.service_model.specs.declared.table.Table.{Table}
 use Rattle.service_model.specs.declared.cert.Verdict.{Verdict}
+use Rattle.service_model.specs.declared.cert.Item.{Item}
 use Rattle.service_model.specs.Net.{Net}
 use Rattle.service_model.specs.Plans.{Feasible, cost_of}
 use Rattle.service_model.specs.Faults.{IsNetwork}
 use Rattle.service_model.specs.Customers.{HasEnds}
 use Rattle.service_model.specs.Orders.{IsTopological}
 use Rattle.service_model.specs.Tables.{Sound}
+use Rattle.service_model.specs.Ranges.{IsIn}
 use Rattle.service_model.specs.Nodes.{IsNode}
 use Rattle.service_model.specs.CertRanges.{Cut, AreCuts, AreNodes, IsOnlyLeaf}
 use Rattle.service_model.specs.Repairs.{Repair, IsRepair, Found, FoundOf, better}
 use Rattle.service_model.specs.Verdicts.{BoundsLeaves, Searched, IsEnding, IsTrueOf}
-use Rattle.service_model.specs.CertRules.{TableRule}
+use Rattle.service_model.specs.Held.{Held, none_held, held_with, held_after, range_of, bound_at}
+use Rattle.service_model.specs.CertRules.{TableRule, Keeps}
+use Rattle.service_model.specs.Certs.{AllKeep}
+use Rattle.cert_laws.specs.SoFar.{SoundSoFar}
 
 -- each feasible plan lies in the range of exactly one leaf
 abbrev pub LeafLaw : Type 0
@@ -41,9 +47,10 @@ abbrev pub FoundOneLaw : Type 0
 FoundOneLaw = (n : Net) (order : List ℕ) (relaxed : List (Option Plan)) (a b : Option Plan) → IsTopological (length n.stages) n.arcs order
     → Found n relaxed a → Found n relaxed b → a ≡ b
 
--- a table on which no rule fails leaves the tables sound
+-- a table that keeps the rules over the tables before it leaves the tables sound
 abbrev pub TableMoreLaw : Type 0
-TableMoreLaw = (n : Net) (tables : List Table) (t : Table) → Sound n tables → ((rule : ℕ) → TableRule n tables t rule) → Sound n (tables ++ t ∷ [])
+TableMoreLaw = (n : Net) (tables : List Table) (t : Table) → Sound n tables → TableRule n tables t TABLE → TableRule n tables t CHILD
+    → TableRule n tables t CHILD_ARC → TableRule n tables t LOCAL → Sound n (tables ++ t ∷ [])
 
 -- later tables leave a node as it is
 abbrev pub NodeStaysLaw : Type 0
@@ -54,3 +61,17 @@ NodeStaysLaw = (n : Net) (tables more : List Table) (r : Range) (roots : List �
 abbrev pub TrueLaw : Type 0
 TrueLaw = (n : Net) (s : Searched) (budget : ℕ) (v : Verdict) → IsNetwork n → Sound n s.tables → AreCuts n s.cuts
     → AreNodes n s.tables s.roots s.cuts → IsEnding n s budget v → IsTrueOf n v
+
+-- an item on which no rule fails leaves what came sound
+abbrev pub ItemMoreLaw : Type 0
+ItemMoreLaw = (n : Net) (h : Held) (x : Item) → IsNetwork n → SoundSoFar n h → Keeps n h x → SoundSoFar n (held_with h x)
+
+-- where no rule fails on any item, whatever comes later, no feasible plan of a node's range costs less than the node's bound
+abbrev pub BoundLaw : Type 0
+BoundLaw = (n : Net) (items : List Item) (k : ℕ) (p : Plan) → IsNetwork n → AllKeep n none_held items → k < length (held_after none_held items).nodes
+    → Feasible n p → IsIn n (range_of n (held_after none_held items) k) p → bound_at (held_after none_held items) k ≤ cost_of n p
+
+-- where no rule fails on any item, the verdict is true of the network
+abbrev pub CheckLaw : Type 0
+CheckLaw = (n : Net) (items : List Item) (v : Verdict) → IsNetwork n → AllKeep n none_held items → (held_after none_held items).verdict ≡ Some v
+    → IsTrueOf n v

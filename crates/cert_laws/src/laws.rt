@@ -1,5 +1,5 @@
 // The laws, each as the contract of a call that does nothing.
-ghost use Rattle.cert_laws.specs.Laws.{LeafLaw, LeastBoundLaw, FoundMoreLaw, RepairLaw, FoundOneLaw, TableMoreLaw, NodeStaysLaw, TrueLaw};
+ghost use Rattle.cert_laws.specs.Laws.{LeafLaw, LeastBoundLaw, FoundMoreLaw, RepairLaw, FoundOneLaw, TableMoreLaw, NodeStaysLaw, TrueLaw, ItemMoreLaw, BoundLaw, CheckLaw};
 
 /// Each feasible plan lies in the range of exactly one leaf.
 pub fn leaf_law()
@@ -26,7 +26,7 @@ pub fn found_one_law()
     ensures { FoundOneLaw }
 {}
 
-/// A table on which no rule fails leaves the tables sound.
+/// A table that keeps the rules over the tables before it leaves the tables sound.
 pub fn table_more_law()
     ensures { TableMoreLaw }
 {}
@@ -40,4 +40,19 @@ pub fn node_stays_law()
 /// fit their ranges.
 pub fn true_law()
     ensures { TrueLaw }
+{}
+
+/// An item on which no rule fails leaves what came sound.
+pub fn item_more_law()
+    ensures { ItemMoreLaw }
+{}
+
+/// Where no rule fails on any item, each node's bound is at most the cost of each feasible plan of its range.
+pub fn bound_law()
+    ensures { BoundLaw }
+{}
+
+/// Where no rule fails on any item, whoever wrote them, the verdict is true of the network.
+pub fn check_law()
+    ensures { CheckLaw }
 {}

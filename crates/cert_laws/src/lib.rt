@@ -4,6 +4,6 @@
 mod laws;
 
 pub use laws::{
-    found_more_law, found_one_law, leaf_law, least_bound_law, node_stays_law, repair_law,
-    table_more_law, true_law,
+    bound_law, check_law, found_more_law, found_one_law, item_more_law, leaf_law, least_bound_law,
+    node_stays_law, repair_law, table_more_law, true_law,
 };
