@@ -1,11 +1,16 @@
 -- Items on which no rule fails have a true verdict.
-use Rattle.std.proofs.Common.{◌<◌, List, [], ◌∷◌, length, ap, arith}
+use Rattle.std.proofs.Common.{◌≡◌, ◌<◌, List, [], ◌∷◌, length, refl, ap, arith}
+use Rattle.std.specs.Prelude.{Option, Some, None, IsSome, IsSomeAnd}
 use Rattle.std.proofs.lemmas.List.{get_or-map}
 use Rattle.std.proofs.lemmas.List.Elements.{recursion_from_All}
+use Rattle.service_model.specs.declared.cert.Verdict.{Verdict}
 use Rattle.service_model.specs.declared.cert.Item.{Item}
+use Rattle.service_model.specs.declared.cert.Item.TheVariants.{Head as HeadItem}
 use Rattle.service_model.specs.Net.{Net}
 use Rattle.service_model.specs.Faults.{IsNetwork}
 use Rattle.service_model.specs.Nodes.{bound_of, AreSoundBelow}
+use Rattle.service_model.specs.Verdicts.{IsTrueOf}
+use Rattle.service_model.specs.Items.{items_of, items_from}
 use Rattle.service_model.specs.Held.{Held, none_held, held_with, held_after, no_node}
 use Rattle.service_model.specs.Certs.{AllKeep}
 use Rattle.service_model.proofs.NetworkFacts.{IsNetwork-HasEnds}
@@ -13,7 +18,8 @@ use Rattle.gsm_laws.proofs.ElementFacts.{each}
 use Rattle.gsm_laws.proofs.BelowFacts.{sound_everywhere}
 use Rattle.gsm_laws.proofs.NodeFacts.{node_law}
 use Rattle.cert_laws.specs.SoFar.{SoundSoFar}
-use Rattle.cert_laws.specs.Laws.{BoundLaw, CheckLaw}
+use Rattle.cert_laws.specs.Laws.{BoundLaw, CheckLaw, AcceptedLaw, CertLaw}
+use Rattle.cert_laws.proofs.KeptFacts.{held_after-end}
 use Rattle.cert_laws.proofs.ItemFacts.{item_more_law}
 
 -- of no items all is sound
@@ -45,3 +51,15 @@ bound_law n items k p valid keep within feasible inside =
 
 pub check_law : CheckLaw
 check_law n items v valid keep has = (items_sound n none_held items valid (none_sound n) keep).verdict v has
+
+has_verdict : (n : Net) (verdict : Option Verdict) → IsSome verdict → ((v : Verdict) → verdict ≡ Some v → IsTrueOf n v) → IsSomeAnd verdict (IsTrueOf n)
+has_verdict n None some true' = cc
+has_verdict n (Some v) some true' = true' v refl
+
+pub accepted_law : AcceptedLaw
+accepted_law n items valid accepted =
+    let sound = items_sound n none_held items valid (none_sound n) accepted.keep in
+    has_verdict n (held_after none_held items).verdict accepted.ended sound.verdict
+
+pub cert_law : CertLaw
+cert_law n c valid keep = check_law n (items_of c) c.verdict valid keep (held_after-end none_held (HeadItem c.head ∷ items_from c 0 0 c.nodes) c.verdict)

@@ -8,4 +8,6 @@ pub mod TruthFacts
 pub mod FloorFacts
 pub mod SplitFacts
 pub mod ItemFacts
+pub mod KeptFacts
 pub mod CheckFacts
+pub mod FaultFacts

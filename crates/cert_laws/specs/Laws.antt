@@ -1,10 +1,11 @@
 -- The laws over certificates.
-use Rattle.std.specs.Prelude.{◌≡◌, ℕ, ◌<◌, ◌≤◌, List, [], ◌∷◌, ◌++◌, length, Option, Some}
+use Rattle.std.specs.Prelude.{◌≡◌, ℕ, ◌<◌, ◌≤◌, List, [], ◌∷◌, ◌++◌, length, Option, Some, IsSomeAnd}
 use Rattle.service_model.specs.declared.cert_rules.TheConstants.{TABLE, CHILD, CHILD_ARC, LOCAL}
 use Rattle.service_model.specs.declared.plan.Plan.{Plan}
 use Rattle.service_model.specs.declared.range.Range.{Range}
 use Rattle.service_model.specs.declared.table.Table.{Table}
 use Rattle.service_model.specs.declared.cert.Verdict.{Verdict}
+use Rattle.service_model.specs.declared.cert.Cert.{Cert}
 use Rattle.service_model.specs.declared.cert.Item.{Item}
 use Rattle.service_model.specs.Net.{Net}
 use Rattle.service_model.specs.Plans.{Feasible, cost_of}
@@ -17,9 +18,10 @@ use Rattle.service_model.specs.Nodes.{IsNode}
 use Rattle.service_model.specs.CertRanges.{Cut, AreCuts, AreNodes, IsOnlyLeaf}
 use Rattle.service_model.specs.Repairs.{Repair, IsRepair, Found, FoundOf, better}
 use Rattle.service_model.specs.Verdicts.{BoundsLeaves, Searched, IsEnding, IsTrueOf}
+use Rattle.service_model.specs.Items.{items_of}
 use Rattle.service_model.specs.Held.{Held, none_held, held_with, held_after, range_of, bound_at}
 use Rattle.service_model.specs.CertRules.{TableRule, Keeps}
-use Rattle.service_model.specs.Certs.{AllKeep}
+use Rattle.service_model.specs.Certs.{AllKeep, IsAccepted, IsFault}
 use Rattle.cert_laws.specs.SoFar.{SoundSoFar}
 
 -- each feasible plan lies in the range of exactly one leaf
@@ -75,3 +77,20 @@ BoundLaw = (n : Net) (items : List Item) (k : ℕ) (p : Plan) → IsNetwork n �
 abbrev pub CheckLaw : Type 0
 CheckLaw = (n : Net) (items : List Item) (v : Verdict) → IsNetwork n → AllKeep n none_held items → (held_after none_held items).verdict ≡ Some v
     → IsTrueOf n v
+
+-- an accepted certificate has a verdict, which is true of the network
+abbrev pub AcceptedLaw : Type 0
+AcceptedLaw = (n : Net) (items : List Item) → IsNetwork n → IsAccepted n items → IsSomeAnd (held_after none_held items).verdict (IsTrueOf n)
+
+-- where no rule fails on the items of a certificate, its verdict is true of the network
+abbrev pub CertLaw : Type 0
+CertLaw = (n : Net) (c : Cert) → IsNetwork n → AllKeep n none_held (items_of c) → IsTrueOf n c.verdict
+
+-- items have at most one first fault
+abbrev pub FaultOneLaw : Type 0
+FaultOneLaw = (n : Net) (items : List Item) (line rule line' rule' : ℕ) → IsFault n items line rule → IsFault n items line' rule'
+    → (line ≡ line') × (rule ≡ rule')
+
+-- accepted items have no fault
+abbrev pub NoFaultLaw : Type 0
+NoFaultLaw = (n : Net) (items : List Item) (line rule : ℕ) → IsAccepted n items → ¬ IsFault n items line rule

@@ -1,5 +1,5 @@
 // The laws, each as the contract of a call that does nothing.
-ghost use Rattle.cert_laws.specs.Laws.{LeafLaw, LeastBoundLaw, FoundMoreLaw, RepairLaw, FoundOneLaw, TableMoreLaw, NodeStaysLaw, TrueLaw, ItemMoreLaw, BoundLaw, CheckLaw};
+ghost use Rattle.cert_laws.specs.Laws.{LeafLaw, LeastBoundLaw, FoundMoreLaw, RepairLaw, FoundOneLaw, TableMoreLaw, NodeStaysLaw, TrueLaw, ItemMoreLaw, BoundLaw, CheckLaw, AcceptedLaw, CertLaw, FaultOneLaw, NoFaultLaw};
 
 /// Each feasible plan lies in the range of exactly one leaf.
 pub fn leaf_law()
@@ -55,4 +55,24 @@ pub fn bound_law()
 /// Where no rule fails on any item, whoever wrote them, the verdict is true of the network.
 pub fn check_law()
     ensures { CheckLaw }
+{}
+
+/// An accepted certificate has a verdict, which is true of the network.
+pub fn accepted_law()
+    ensures { AcceptedLaw }
+{}
+
+/// Where no rule fails on the items of a certificate, its verdict is true of the network.
+pub fn cert_law()
+    ensures { CertLaw }
+{}
+
+/// Items have at most one first fault.
+pub fn fault_one_law()
+    ensures { FaultOneLaw }
+{}
+
+/// Accepted items have no fault.
+pub fn no_fault_law()
+    ensures { NoFaultLaw }
 {}
