@@ -1,0 +1,13 @@
+pub mod CutFacts
+pub mod HalfFacts
+pub mod LeafFacts
+pub mod FoundFacts
+pub mod RepairFacts
+pub mod GrowFacts
+pub mod TruthFacts
+pub mod FloorFacts
+pub mod SplitFacts
+pub mod ItemFacts
+pub mod KeptFacts
+pub mod CheckFacts
+pub mod FaultFacts
