@@ -32,7 +32,8 @@ left_range ranges c = get_or_at ranges _ _ no_range (length ranges) refl
 
 right_range : (ranges : List Range) (c : Cut) → range_at (with_halves ranges c) (length ranges + 1) ≡ started (range_at ranges c.node) c.stage c.last
 right_range ranges c =
-    let past = get_or-append_right ranges (ended (range_at ranges c.node) c.stage c.last ∷ started (range_at ranges c.node) c.stage c.last ∷ []) (length ranges) (length ranges + 1) no_range refl (omega arith) in
+    let halves = ended (range_at ranges c.node) c.stage c.last ∷ started (range_at ranges c.node) c.stage c.last ∷ [] in
+    let past = get_or-append_right ranges halves (length ranges) (length ranges + 1) no_range refl (omega arith) in
     let one : length ranges + 1 - length ranges ≡ 1 = omega arith in
     rw one at past
 

@@ -2,9 +2,11 @@ pub mod CutFacts
 pub mod HalfFacts
 pub mod LeafFacts
 pub mod FoundFacts
+pub mod ShiftFacts
 pub mod RepairFacts
 pub mod GrowFacts
 pub mod TruthFacts
+pub mod EndingFacts
 pub mod FloorFacts
 pub mod SplitFacts
 pub mod ItemFacts

@@ -11,7 +11,6 @@ use Rattle.service_model.specs.Net.{Net}
 use Rattle.service_model.specs.Plans.{Feasible, cost_of}
 use Rattle.service_model.specs.Faults.{IsNetwork}
 use Rattle.service_model.specs.Customers.{HasEnds}
-use Rattle.service_model.specs.Orders.{IsTopological}
 use Rattle.service_model.specs.Tables.{Sound}
 use Rattle.service_model.specs.Ranges.{IsIn}
 use Rattle.service_model.specs.Nodes.{IsNode}
@@ -39,15 +38,13 @@ abbrev pub FoundMoreLaw : Type 0
 FoundMoreLaw = (n : Net) (relaxed : List (Option Plan)) (next old new : Option Plan) → Found n relaxed old → FoundOf n next new
     → Found n (relaxed ++ next ∷ []) (better n old new)
 
--- a repair of a plan is one plan, where the network has an order
+-- a repair of a plan is one plan
 abbrev pub RepairLaw : Type 0
-RepairLaw = (n : Net) (order : List ℕ) (kind : Repair) (q a b : Plan) → IsTopological (length n.stages) n.arcs order
-    → IsRepair kind n q a → IsRepair kind n q b → a ≡ b
+RepairLaw = (n : Net) (kind : Repair) (q a b : Plan) → IsNetwork n → IsRepair kind n q a → IsRepair kind n q b → a ≡ b
 
--- the plan found is one plan, where the network has an order
+-- the plan found is one plan
 abbrev pub FoundOneLaw : Type 0
-FoundOneLaw = (n : Net) (order : List ℕ) (relaxed : List (Option Plan)) (a b : Option Plan) → IsTopological (length n.stages) n.arcs order
-    → Found n relaxed a → Found n relaxed b → a ≡ b
+FoundOneLaw = (n : Net) (relaxed : List (Option Plan)) (a b : Option Plan) → IsNetwork n → Found n relaxed a → Found n relaxed b → a ≡ b
 
 -- a table that keeps the rules over the tables before it leaves the tables sound
 abbrev pub TableMoreLaw : Type 0
@@ -63,6 +60,10 @@ NodeStaysLaw = (n : Net) (tables more : List Table) (r : Range) (roots : List �
 abbrev pub TrueLaw : Type 0
 TrueLaw = (n : Net) (s : Searched) (budget : ℕ) (v : Verdict) → IsNetwork n → Sound n s.tables → AreCuts n s.cuts
     → AreNodes n s.tables s.roots s.cuts → IsEnding n s budget v → IsTrueOf n v
+
+-- a search has at most one ending
+abbrev pub EndingOneLaw : Type 0
+EndingOneLaw = (n : Net) (s : Searched) (budget : ℕ) (v w : Verdict) → IsNetwork n → IsEnding n s budget v → IsEnding n s budget w → v ≡ w
 
 -- an item on which no rule fails leaves what came sound
 abbrev pub ItemMoreLaw : Type 0

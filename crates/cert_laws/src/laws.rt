@@ -1,5 +1,5 @@
 // The laws, each as the contract of a call that does nothing.
-ghost use Rattle.cert_laws.specs.Laws.{LeafLaw, LeastBoundLaw, FoundMoreLaw, RepairLaw, FoundOneLaw, TableMoreLaw, NodeStaysLaw, TrueLaw, ItemMoreLaw, BoundLaw, CheckLaw, AcceptedLaw, CertLaw, FaultOneLaw, NoFaultLaw};
+ghost use Rattle.cert_laws.specs.Laws.{LeafLaw, LeastBoundLaw, FoundMoreLaw, RepairLaw, FoundOneLaw, TableMoreLaw, NodeStaysLaw, TrueLaw, EndingOneLaw, ItemMoreLaw, BoundLaw, CheckLaw, AcceptedLaw, CertLaw, FaultOneLaw, NoFaultLaw};
 
 /// Each feasible plan lies in the range of exactly one leaf.
 pub fn leaf_law()
@@ -16,12 +16,12 @@ pub fn found_more_law()
     ensures { FoundMoreLaw }
 {}
 
-/// Each repair of a plan is one plan, where the network has an order.
+/// Each repair of a plan is one plan.
 pub fn repair_law()
     ensures { RepairLaw }
 {}
 
-/// The plan found is one plan, where the network has an order.
+/// The plan found is one plan.
 pub fn found_one_law()
     ensures { FoundOneLaw }
 {}
@@ -40,6 +40,11 @@ pub fn node_stays_law()
 /// fit their ranges.
 pub fn true_law()
     ensures { TrueLaw }
+{}
+
+/// A search has at most one ending.
+pub fn ending_one_law()
+    ensures { EndingOneLaw }
 {}
 
 /// An item on which no rule fails leaves what came sound.
