@@ -15,13 +15,12 @@ use Rattle.service_model.specs.Walks.{Leads}
 use Rattle.service_model.specs.Faults.{IsNetwork}
 use Rattle.service_model.specs.Ranges.{floor_of}
 use Rattle.service_model.specs.Tables.{transit_in, IsChild}
-use Rattle.service_model.specs.Nodes.{Holds}
+use Rattle.service_model.specs.Nodes.{Holds, MeetsChild}
 use Rattle.service_model.specs.Forests.{IsChildOf, IsKept}
 use Rattle.service_model.specs.Relaxed.{FitsRange, IsKindOf, IsTableOf}
 use Rattle.service_model.proofs.ArcFacts.{supplies_from_leads, transit_in-arc}
 use Rattle.tree_order.specs.declared.forest.Forest.{Forest}
 use Rattle.tree_order.specs.Forest.{IsForest}
-use Rattle.gsm_laws.specs.Traces.{MeetsChild}
 
 -- the children in a stage's list are stages, and its children
 pub child_stage : (stages : ℕ) (arcs : List SupplyArc) (f : Forest) → IsForest stages arcs f → (j c : ℕ) → j < stages → Contains (get_or f.children j []) c → c < stages

@@ -15,7 +15,7 @@ use Rattle.service_model.specs.Plans.{HasTimes, Meets, inbound_at, outbound_at, 
 use Rattle.service_model.specs.Walks.{Leads}
 use Rattle.service_model.specs.Faults.{IsNetwork}
 use Rattle.service_model.specs.Tables.{table_at, transit_in}
-use Rattle.service_model.specs.Nodes.{AreTightBelow}
+use Rattle.service_model.specs.Nodes.{AreTightBelow, MeetsChild}
 use Rattle.service_model.specs.Forests.{IsChildOf, IsKept}
 use Rattle.service_model.specs.Relaxed.{IsRelaxedPlan, IsKindOf}
 use Rattle.service_model.proofs.ArcFacts.{transit_in-arc}
@@ -24,7 +24,7 @@ use Rattle.tree_order.specs.declared.forest.Forest.{Forest}
 use Rattle.tree_order.specs.Forest.{IsForest, HasOneSide, roots_of}
 use Rattle.tree_order.proofs.ForestLaws.{child_in_list, parent_is_stage, forest_ranked, rank_in, one_side}
 use Rattle.tree_order.proofs.BelowLaws.{root_in_list, list_has_root}
-use Rattle.gsm_laws.specs.Traces.{MeetsChild, TracedWithin, IsTraced, IsTracedNode}
+use Rattle.gsm_laws.specs.Traces.{TracedWithin, IsTraced, IsTracedNode}
 use Rattle.gsm_laws.proofs.ElementFacts.{all_map}
 use Rattle.gsm_laws.proofs.PartFacts.{traced_parts}
 use Rattle.arc_relax.specs.StageTables.{HasTable, HaveTables, root_numbers}

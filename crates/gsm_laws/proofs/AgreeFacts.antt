@@ -10,8 +10,8 @@ use Rattle.service_model.specs.declared.table.Table.{Table}
 use Rattle.service_model.specs.Net.{Net, stage_at}
 use Rattle.service_model.specs.Plans.{inbound_at, outbound_at, stage_cost, charge}
 use Rattle.service_model.specs.Tables.{table_at}
-use Rattle.service_model.specs.Nodes.{below_within, Holds, IsTightAt, IsOnce}
-use Rattle.gsm_laws.specs.Traces.{IsAbsent, SameAt, MeetsChild, TracedWithin, cost_at}
+use Rattle.service_model.specs.Nodes.{below_within, Holds, IsTightAt, IsOnce, MeetsChild}
+use Rattle.gsm_laws.specs.Traces.{IsAbsent, SameAt, TracedWithin, cost_at}
 use Rattle.gsm_laws.proofs.ElementFacts.{all_append}
 use Rattle.gsm_laws.proofs.BelowFacts.{itself, earlier_from_sound, sound_from_tight}
 

@@ -15,9 +15,9 @@ use Rattle.service_model.specs.Plans.{Feasible, Meets, inbound_at, outbound_at}
 use Rattle.service_model.specs.Customers.{HasEnds}
 use Rattle.service_model.specs.Ranges.{IsIn}
 use Rattle.service_model.specs.Tables.{table_at, Supplies, transit_in, IsChild}
-use Rattle.service_model.specs.Nodes.{below, below_within, below_roots, Holds, Fits, IsSoundAt, AreSoundBelow}
+use Rattle.service_model.specs.Nodes.{below, below_within, below_roots, Holds, Fits, IsSoundAt, AreSoundBelow, MeetsChild}
 use Rattle.service_model.proofs.RangeFacts.{floor_le}
-use Rattle.gsm_laws.specs.Traces.{MeetsChild, TracedWithin, IsTraced}
+use Rattle.gsm_laws.specs.Traces.{TracedWithin, IsTraced}
 use Rattle.gsm_laws.specs.Laws.{NodeLaw}
 use Rattle.gsm_laws.proofs.ElementFacts.{each_two, all_append, all_parts}
 use Rattle.gsm_laws.proofs.BelowFacts.{earlier_from_sound}

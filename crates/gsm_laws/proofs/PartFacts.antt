@@ -5,8 +5,8 @@ use Rattle.service_model.specs.declared.plan.Plan.{Plan}
 use Rattle.service_model.specs.declared.table.Table.{Table}
 use Rattle.service_model.specs.Net.{Net}
 use Rattle.service_model.specs.Tables.{table_at}
-use Rattle.service_model.specs.Nodes.{below, below_within, Holds}
-use Rattle.gsm_laws.specs.Traces.{MeetsChild, TracedWithin, IsTraced, AreTraced}
+use Rattle.service_model.specs.Nodes.{below, below_within, Holds, MeetsChild}
+use Rattle.gsm_laws.specs.Traces.{TracedWithin, IsTraced, AreTraced}
 use Rattle.gsm_laws.proofs.ElementFacts.{all_append}
 use Rattle.gsm_laws.proofs.BelowFacts.{HasEarlier, each_child}
 

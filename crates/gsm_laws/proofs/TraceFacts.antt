@@ -13,8 +13,8 @@ use Rattle.service_model.specs.declared.table.Table.{Table}
 use Rattle.service_model.specs.Net.{Net, stage_at}
 use Rattle.service_model.specs.Plans.{HasTimes, inbound_at, outbound_at, stage_cost, charge}
 use Rattle.service_model.specs.Tables.{table_at, transit_in, place, place_of, child_transit, child_least, least_below, least_of, ComesFrom}
-use Rattle.service_model.specs.Nodes.{below, below_within, Holds, IsTightAt}
-use Rattle.gsm_laws.specs.Traces.{IsAbsent, SameAt, SameOutside, MeetsChild, TracedWithin, cost_at}
+use Rattle.service_model.specs.Nodes.{below, below_within, Holds, IsTightAt, MeetsChild}
+use Rattle.gsm_laws.specs.Traces.{IsAbsent, SameAt, SameOutside, TracedWithin, cost_at}
 use Rattle.gsm_laws.specs.Laws.{TraceLaw}
 use Rattle.gsm_laws.proofs.ElementFacts.{all_append, each}
 use Rattle.gsm_laws.proofs.BelowFacts.{itself, earlier_from_sound, sound_from_tight}

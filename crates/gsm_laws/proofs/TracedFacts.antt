@@ -11,8 +11,8 @@ use Rattle.service_model.specs.declared.table.Table.{Table}
 use Rattle.service_model.specs.Net.{Net}
 use Rattle.service_model.specs.Plans.{inbound_at, outbound_at}
 use Rattle.service_model.specs.Tables.{table_at, width, place, child_transit, child_least, least_of, least_below}
-use Rattle.service_model.specs.Nodes.{below_within, Holds, plan_value, IsSoundAt}
-use Rattle.gsm_laws.specs.Traces.{MeetsChild, TracedWithin, cost_at}
+use Rattle.service_model.specs.Nodes.{below_within, Holds, plan_value, IsSoundAt, MeetsChild}
+use Rattle.gsm_laws.specs.Traces.{TracedWithin, cost_at}
 use Rattle.gsm_laws.specs.Laws.{TracedLaw}
 use Rattle.gsm_laws.proofs.ElementFacts.{all_append}
 use Rattle.gsm_laws.proofs.BelowFacts.{itself, earlier_from_sound}

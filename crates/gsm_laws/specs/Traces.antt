@@ -2,21 +2,13 @@
 use Rattle.std.specs.Prelude.{◌≡◌, ◌≢◌, ℕ, zero, suc, ◌+◌, ◌<◌, ◌≤◌, List, length, slice_index, map, sum_by, All, Contains}
 use Rattle.std.specs.List.{AllByRecursion}
 use Rattle.service_model.specs.declared.limits.TheConstants.{INF}
-use Rattle.service_model.specs.declared.stage.SupplyArc.{SupplyArc}
 use Rattle.service_model.specs.declared.plan.Plan.{Plan}
-use Rattle.service_model.specs.declared.table.Kind.{Kind}
-use Rattle.service_model.specs.declared.table.Kind.TheVariants.{Down, Up, Root}
+use Rattle.service_model.specs.declared.table.Kind.TheVariants.{Root}
 use Rattle.service_model.specs.declared.table.Table.{Table}
 use Rattle.service_model.specs.Net.{Net}
 use Rattle.service_model.specs.Plans.{HasTimes, inbound_at, outbound_at, stage_cost, cost_of}
-use Rattle.service_model.specs.Tables.{table_at, transit_in, place_of}
-use Rattle.service_model.specs.Nodes.{below, below_roots, Holds, IsOnce}
-
--- the plan meets the arc between a child of the kind, of stage c, and its parent, of stage j
-abbrev pub MeetsChild : Kind → List SupplyArc → Plan → ℕ → ℕ → Type 0
-MeetsChild Down arcs p c j = outbound_at p c + transit_in arcs c j ≤ inbound_at p j
-MeetsChild Up arcs p c j = outbound_at p j + transit_in arcs j c ≤ inbound_at p c
-MeetsChild Root arcs p c j = ⊥
+use Rattle.service_model.specs.Tables.{table_at, place_of}
+use Rattle.service_model.specs.Nodes.{below, below_roots, Holds, MeetsChild, IsOnce}
 
 -- the plan is within the table and those below it, and meets the arcs between them, so many steps deep
 abbrev pub TracedWithin : ℕ → Net → List Table → Plan → ℕ → Type 0

@@ -1,5 +1,5 @@
 -- The rules on the items of a certificate, by their numbers.
-use Rattle.std.specs.Prelude.{◌≡◌, ℕ, ◌+◌, ◌<◌, ◌≤◌, ◌==◌, nat_lt, false, List, length, All, Option, None, is_none, IfSome, MatchBool, ⊤, if◌then◌else◌}
+use Rattle.std.specs.Prelude.{◌≡◌, ℕ, ◌+◌, ◌<◌, ◌≤◌, ◌==◌, nat_lt, false, List, length, All, Option, Some, None, is_none, IfSome, MatchBool, ⊤, if◌then◌else◌}
 use Rattle.std.specs.List.{list_any}
 use Rattle.service_model.specs.declared.cert_rules.TheConstants.{SHAPE, HEAD, AFTER_END, PLACE, NETWORK, TABLE, CHILD, CHILD_ARC, LOCAL, BUDGET, ROOT, FITS, STAGE_TWICE, RELAXED, SPLIT_NODE, SPLIT_LATE, SPLIT_PLAN, SPLIT_ARC, VERDICT, PLAN}
 use Rattle.service_model.specs.declared.plan.Plan.{Plan}
@@ -92,3 +92,8 @@ Rule n h x rule =
 -- all rules hold of the item
 abbrev pub Keeps : Net → Held → Item → Type 0
 Keeps n h x = (rule : ℕ) → Rule n h x rule
+
+-- the first of the rules that fails, by its number, none where all hold
+abbrev pub IsFirstOf : (ℕ → Type 0) → Option ℕ → Type 0
+IsFirstOf rule None = (k : ℕ) → rule k
+IsFirstOf rule (Some r) = (¬ rule r) × ((k : ℕ) → k < r → rule k)

@@ -1,26 +1,17 @@
 -- When the nodes before a split earn it.
-use Rattle.std.specs.Prelude.{◌≡◌, ℕ, ◌+◌, ◌<◌, ◌≤◌, List, length, All, Some}
+use Rattle.std.specs.Prelude.{◌≡◌, ℕ, ◌+◌, ◌*◌, ◌<◌, ◌≤◌, List, length, All, Some}
 use Rattle.service_model.specs.declared.limits.TheConstants.{INF}
-use Rattle.service_model.specs.declared.stage.SupplyArc.{SupplyArc}
 use Rattle.service_model.specs.declared.plan.Plan.{Plan}
-use Rattle.service_model.specs.declared.table.Kind.{Kind}
-use Rattle.service_model.specs.declared.table.Kind.TheVariants.{Down, Up, Root}
 use Rattle.service_model.specs.declared.table.Table.{Table}
 use Rattle.service_model.specs.declared.cert.Split.{Split}
 use Rattle.service_model.specs.Net.{Net}
 use Rattle.service_model.specs.Plans.{inbound_at, outbound_at, cost_of}
 use Rattle.service_model.specs.Tables.{table_at, transit_in, Supplies}
-use Rattle.service_model.specs.Nodes.{below_roots}
+use Rattle.service_model.specs.Nodes.{below_roots, MeetsChild}
 use Rattle.service_model.specs.Relaxed.{FitsRange}
 use Rattle.service_model.specs.Repairs.{IsFound}
 use Rattle.service_model.specs.Verdicts.{IsNextLeaf}
 use Rattle.service_model.specs.Held.{Held, node_at, relaxed_at, cuts_of, roots_of, relaxed_of, range_of, bound_at}
-
--- the plan meets the arc between a child of the kind, of stage c, and its parent, of stage j
-abbrev pub MeetsChild : Kind → List SupplyArc → Plan → ℕ → ℕ → Type 0
-MeetsChild Down arcs p c j = outbound_at p c + transit_in arcs c j ≤ inbound_at p j
-MeetsChild Up arcs p c j = outbound_at p j + transit_in arcs j c ≤ inbound_at p c
-MeetsChild Root arcs p c j = ⊥
 
 -- the plan meets the arcs between table i and its children
 abbrev pub MeetsChildren : Net → List Table → Plan → ℕ → Type 0
@@ -50,8 +41,9 @@ pub record BreaksArc (n : Net) (h : Held) (s : Split) : Type 0 where
   pub broken : inbound_at (relaxed_at h.nodes s.node) s.customer
       < outbound_at (relaxed_at h.nodes s.node) s.supplier + transit_in n.arcs s.supplier s.customer
 
--- the split is earned by the nodes before it
+-- the split is earned by the nodes before it, two for each split before it and the first
 pub record IsEarned (n : Net) (h : Held) (s : Split) : Type 0 where
+  pub nodes : length h.nodes ≡ 2 * length h.splits + 1
   pub next : IsNext n h s.node
   pub early : IsOpen n h s.node
   pub relaxed : IsRelaxedAt n h s.node

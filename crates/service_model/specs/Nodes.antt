@@ -1,14 +1,16 @@
 -- What stands below tables, and nodes over them.
-use Rattle.std.specs.Prelude.{◌≡◌, ◌≢◌, ℕ, zero, suc, ◌<◌, ◌≤◌, List, [], ◌∷◌, length, slice_index, map, sum_by, All, AllPairs}
+use Rattle.std.specs.Prelude.{◌≡◌, ◌≢◌, ℕ, zero, suc, ◌+◌, ◌<◌, ◌≤◌, List, [], ◌∷◌, length, slice_index, map, sum_by, All, AllPairs}
 use Rattle.std.specs.List.{flat_map, AllByRecursion}
+use Rattle.service_model.specs.declared.stage.SupplyArc.{SupplyArc}
 use Rattle.service_model.specs.declared.plan.Plan.{Plan}
 use Rattle.service_model.specs.declared.range.Range.{Range}
-use Rattle.service_model.specs.declared.table.Kind.TheVariants.{Root}
+use Rattle.service_model.specs.declared.table.Kind.{Kind}
+use Rattle.service_model.specs.declared.table.Kind.TheVariants.{Down, Up, Root}
 use Rattle.service_model.specs.declared.table.Table.{Table}
 use Rattle.service_model.specs.Net.{Net}
 use Rattle.service_model.specs.Plans.{inbound_at, outbound_at}
 use Rattle.service_model.specs.Ranges.{floor_of}
-use Rattle.service_model.specs.Tables.{table_at, value_at, capped, Covers, Local, Tight, IsShaped}
+use Rattle.service_model.specs.Tables.{table_at, transit_in, value_at, capped, Covers, Local, Tight, IsShaped}
 
 -- the table and those below its children, at most so many steps deep, as a list with repeats
 abbrev pub below_within : ℕ → List Table → ℕ → List ℕ
@@ -50,6 +52,12 @@ Holds n p t = Covers n t (inbound_at p t.stage) (outbound_at p t.stage)
 -- the table's value at the plan's times
 abbrev pub plan_value : Plan → Table → ℕ
 plan_value p t = value_at t (inbound_at p t.stage) (outbound_at p t.stage)
+
+-- the plan meets the arc between a child of the kind, of stage c, and its parent, of stage j
+abbrev pub MeetsChild : Kind → List SupplyArc → Plan → ℕ → ℕ → Type 0
+MeetsChild Down arcs p c j = outbound_at p c + transit_in arcs c j ≤ inbound_at p j
+MeetsChild Up arcs p c j = outbound_at p j + transit_in arcs j c ≤ inbound_at p c
+MeetsChild Root arcs p c j = ⊥
 
 -- what the plans of a node with these roots cost at least
 abbrev pub bound_of : List Table → List ℕ → ℕ

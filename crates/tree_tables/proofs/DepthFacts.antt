@@ -6,8 +6,8 @@ use Rattle.service_model.specs.declared.plan.Plan.{Plan}
 use Rattle.service_model.specs.declared.table.Table.{Table}
 use Rattle.service_model.specs.Net.{Net}
 use Rattle.service_model.specs.Tables.{table_at, IsSized}
-use Rattle.service_model.specs.Nodes.{below, below_within, Holds, IsTightAt, AreTightBelow}
-use Rattle.gsm_laws.specs.Traces.{SameAt, MeetsChild, TracedWithin, IsTraced}
+use Rattle.service_model.specs.Nodes.{below, below_within, Holds, IsTightAt, AreTightBelow, MeetsChild}
+use Rattle.gsm_laws.specs.Traces.{SameAt, TracedWithin, IsTraced}
 use Rattle.gsm_laws.proofs.ElementFacts.{each, all_append}
 use Rattle.gsm_laws.proofs.BelowFacts.{HasEarlier, earlier_from_sound, sound_from_tight, below_at, each_child}
 use Rattle.gsm_laws.proofs.AgreeFacts.{same_meets, same_traced}

@@ -1,0 +1,2 @@
+//! The checker of certificates, which shares nothing with the solver.
+#![tactic(auto)]

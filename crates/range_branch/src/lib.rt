@@ -1,0 +1,2 @@
+//! The search over ranges, whose answer is a certificate.
+#![tactic(auto)]
