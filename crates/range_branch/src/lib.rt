@@ -1,7 +1,7 @@
 //! The search over ranges, whose answer is a certificate.
 #![tactic(auto)]
 
+mod branch;
 mod cert;
-mod search;
 
-pub use search::search;
+pub use branch::search;

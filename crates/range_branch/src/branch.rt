@@ -12,7 +12,8 @@ ghost use Rattle.range_branch.specs.OneNode.{IsWholeCert};
 
 use crate::cert::cert_of;
 use arc_relax::relax;
-use service_model::{Cert, List, MAX_BUDGET, Network, NoMemory};
+use service_model::cert_rules::MAX_BUDGET;
+use service_model::{Cert, List, Network, NoMemory};
 use std::alloc::Global;
 use step_ledger::Steps;
 use table_pool::Pool;
