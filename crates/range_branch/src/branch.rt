@@ -1,5 +1,6 @@
 // The search over ranges. Where the forest drops no arc, it ends with the whole range.
 ghost use Rattle.std.specs.Prelude.{◌≡◌, ◌+◌, ◌≤◌, ◌^◌, ◌∷◌, [], IfOk, OnOk, OnErr, length};
+ghost use Rattle.service_model.specs.Faults.{IsNetwork};
 ghost use Rattle.service_model.specs.Orders.{IsTopological};
 ghost use Rattle.service_model.specs.Items.{items_of};
 ghost use Rattle.service_model.specs.Held.{none_held, node_at};
@@ -34,6 +35,7 @@ fn whole_cert<L>(
     ensures cert { IfOk result (IsWholeCert network.now forest.now budget pool.new steps.old steps.new) }
     ensures later { steps.old ≤ steps.new }
     ensures few { steps.new ≤ steps.old + length network.now.stages }
+    ensures valid { IsNetwork network.now }
 {
     let _stages = network.stages().len();
     let range = network.whole(alloc)?;
