@@ -12,12 +12,13 @@ use Rattle.service_model.specs.Held.{none_held, node_at}
 use Rattle.service_model.specs.Certs.{AllKeep}
 use Rattle.tree_order.specs.declared.forest.Forest.{Forest}
 use Rattle.tree_order.specs.Forest.{IsForest}
+use Rattle.table_pool.specs.Pools.{IsPool}
 use Rattle.arc_relax.proofs.CountFacts.{step_law}
 use Rattle.range_branch.specs.Solutions.{Solves}
 use Rattle.range_branch.specs.Sizes.{IsShortNode, IsShortCert}
-use Rattle.range_branch.specs.Roots.{RiseByStage}
+use Rattle.range_branch.specs.Roots.{RiseByStage, AreRootsOf}
 use Rattle.range_branch.specs.OneNode.{node_by, IsWholeCert}
-use Rattle.range_branch.proofs.RiseFacts.{roots_rise}
+use Rattle.range_branch.proofs.RiseFacts.{roots_are, roots_rise}
 use Rattle.range_branch.proofs.EndFacts.{solves, has_times}
 use Rattle.range_branch.proofs.SizeFacts.{roots_few}
 use Rattle.range_branch.proofs.NodeFacts.{tables_short, is_solution}
@@ -30,12 +31,21 @@ cert_keeps n f budget tables count count' c valid forest tree some most is =
     (all_keep n f budget tables count count' is.relaxed
     (record { valid = valid; forest = forest; tree = tree; some = some; most = most; is = is.is_relaxed }))
 
+pub cert_roots : (n : Net) (f : Forest) (budget : ℕ) (tables : List Table) (count count' : ℕ) (c : Cert) → IsForest (length n.stages) n.arcs f
+    → IsWholeCert n f budget tables count count' c → AreRootsOf f c.tables (node_at c.nodes 0).roots
+cert_roots n f budget tables count count' c forest is =
+    let x = is.is_relaxed in
+    subst (λ (d : Cert). AreRootsOf f d.tables (node_at d.nodes 0).roots) (sym is.cert)
+    (subst (λ (roots : List ℕ). AreRootsOf f tables (reverse roots)) (sym x.roots) (roots_are n (whole_of n) f tables x.numbers forest x.tables))
+
 pub cert_rises : (n : Net) (f : Forest) (budget : ℕ) (tables : List Table) (count count' : ℕ) (c : Cert) → IsForest (length n.stages) n.arcs f
     → IsWholeCert n f budget tables count count' c → RiseByStage c.tables (node_at c.nodes 0).roots
 cert_rises n f budget tables count count' c forest is =
-    let x = is.is_relaxed in
-    subst (λ (d : Cert). RiseByStage d.tables (node_at d.nodes 0).roots) (sym is.cert)
-    (subst (λ (roots : List ℕ). RiseByStage tables (reverse roots)) (sym x.roots) (roots_rise n (whole_of n) f tables x.numbers forest x.tables))
+    roots_rise n f c.tables (node_at c.nodes 0).roots forest (cert_roots n f budget tables count count' c forest is)
+
+-- the tables are those of a pool
+pub cert_pool : (n : Net) (f : Forest) (budget : ℕ) (tables : List Table) (count count' : ℕ) (c : Cert) → IsWholeCert n f budget tables count count' c → IsPool n c.tables
+cert_pool n f budget tables count count' c is = subst (λ (d : Cert). IsPool n d.tables) (sym is.cert) is.is_relaxed.pool
 
 pub cert_solves : (n : Net) (f : Forest) (budget : ℕ) (tables : List Table) (count count' : ℕ) (c : Cert) → IsNetwork n → IsForest (length n.stages) n.arcs f
     → f.dropped ≡ [] → IsWholeCert n f budget tables count count' c → Solves n c.verdict

@@ -1,8 +1,8 @@
 -- The forest's roots fall in its order, so that the roots of a node rise.
-use Rattle.std.proofs.Common.{◌≡◌, ℕ, ◌-◌, ◌<◌, true, List, length, get_or, reverse, sym, ap, ◌∙◌, subst, ⊎_elim, arith}
+use Rattle.std.proofs.Common.{◌≡◌, ℕ, ◌-◌, ◌<◌, true, List, length, get_or, map, reverse, sym, ap, ◌∙◌, subst, ⊎_elim, arith}
 use Rattle.std.specs.Prelude.{AllPairs, ◌==◌}
 use Rattle.std.proofs.lemmas.Bool.{eqb-true}
-use Rattle.std.proofs.lemmas.List.{get_or-map, get_or-reverse, get_or_default, length-map, length-reverse}
+use Rattle.std.proofs.lemmas.List.{get_or-map, get_or-reverse, get_or_default, length-map, length-reverse, ext_get_or}
 use Rattle.std.proofs.lemmas.List.Kept.{AllPairs-filter}
 use Rattle.std.proofs.lemmas.List.Elements.{All-contains_itself, filter_passes}
 use Rattle.service_model.specs.declared.stage.SupplyArc.{SupplyArc}
@@ -15,7 +15,7 @@ use Rattle.tree_order.specs.declared.forest.Forest.{Forest}
 use Rattle.tree_order.specs.Forest.{IsForest, roots_of}
 use Rattle.tree_order.proofs.BelowLaws.{root_in_list}
 use Rattle.arc_relax.specs.StageTables.{HaveTables, root_numbers}
-use Rattle.range_branch.specs.Roots.{RiseByStage}
+use Rattle.range_branch.specs.Roots.{RiseByStage, AreRootsOf}
 
 -- a root is the first of its group
 root_first : (stages : ℕ) (arcs : List SupplyArc) (seen parent : List ℕ) (k : ℕ) → IsWalk stages arcs seen parent → k < length seen
@@ -62,19 +62,35 @@ root_stage n r f tables numbers k forest has within =
     let low : j < length n.stages = (root_in_list (length n.stages) n.arcs f forest j (All-contains_itself (roots_of f) k 0 within)).0 in
     ap (λ i. (table_at tables i).stage) (get_or-map (λ i. get_or numbers i 0) (roots_of f) k 0 0 within) ∙ (has j low).own.stage
 
--- so the node's roots, from the last on, rise
-pub roots_rise : (n : Net) (r : Range) (f : Forest) (tables : List Table) (numbers : List ℕ) → IsForest (length n.stages) n.arcs f → HaveTables n r f tables numbers
-    → RiseByStage tables (reverse (root_numbers f numbers))
-roots_rise n r f tables numbers forest has a b d less within =
+-- the roots of the node are those of the forest, from the last on
+pub roots_are : (n : Net) (r : Range) (f : Forest) (tables : List Table) (numbers : List ℕ) → IsForest (length n.stages) n.arcs f → HaveTables n r f tables numbers
+    → AreRootsOf f tables (reverse (root_numbers f numbers))
+roots_are n r f tables numbers forest has =
     let roots = root_numbers f numbers in
     let stage = λ (k : ℕ). (table_at tables k).stage in
-    let last = length roots - 1 in
     let long : length roots ≡ length (roots_of f) = length-map (roots_of f) (λ j. get_or numbers j 0) in
     let back = length-reverse roots in
-    let high : b < length (reverse roots) = omega (arith, within, length-map (reverse roots) stage) in
-    let at = λ (k : ℕ) (inside : k < length (reverse roots)).
-    get_or-map stage (reverse roots) k 0 d inside
-    ∙ ap stage (get_or-reverse roots k 0 (omega (arith, inside, back)))
-    ∙ root_stage n r f tables numbers (last - k) forest has (omega (arith, inside, back, long)) in
-    let falls = roots_fall (length n.stages) n.arcs f forest (last - b) (last - a) 0 (omega (arith, less, high, back)) (omega (arith, less, high, back, long)) in
-    omega (arith, falls, at a (omega (arith, less, high)), at b high)
+    let mapped = length-map (reverse roots) stage in
+    ext_get_or 0 (map stage (reverse roots)) (reverse (roots_of f)) (mapped ∙ back ∙ long ∙ sym (length-reverse (roots_of f)))
+    (λ k within.
+    let high : k < length (reverse roots) = omega (arith, within, mapped) in
+    let same : length roots - 1 - k ≡ length (roots_of f) - 1 - k = ap (λ m. m - 1 - k) long in
+    get_or-map stage (reverse roots) k 0 0 high
+    ∙ ap stage (get_or-reverse roots k 0 (omega (arith, high, back)))
+    ∙ root_stage n r f tables numbers (length roots - 1 - k) forest has (omega (arith, high, back, long))
+    ∙ ap (λ m. get_or (roots_of f) m 0) same
+    ∙ sym (get_or-reverse (roots_of f) k 0 (omega (arith, high, back, long))))
+
+-- what falls rises from the last on
+rise_back : (xs : List ℕ) → AllPairs (λ i j. j < i) xs → AllPairs (λ i j. i < j) (reverse xs)
+rise_back xs falls a b d less within =
+    let long = length-reverse xs in
+    let last = length xs - 1 in
+    let pair = falls (last - b) (last - a) d (omega (arith, less, within, long)) (omega (arith, less, within, long)) in
+    omega (arith, pair, get_or-reverse xs a d (omega (arith, less, within, long)), get_or-reverse xs b d (omega (arith, within, long)))
+
+-- so they rise
+pub roots_rise : (n : Net) (f : Forest) (tables : List Table) (roots : List ℕ) → IsForest (length n.stages) n.arcs f → AreRootsOf f tables roots
+    → RiseByStage tables roots
+roots_rise n f tables roots forest are =
+    subst (λ (js : List ℕ). AllPairs (λ i j. i < j) js) (sym are) (rise_back (roots_of f) (roots_fall (length n.stages) n.arcs f forest))

@@ -6,9 +6,10 @@ ghost use Rattle.service_model.specs.Items.{items_of};
 ghost use Rattle.service_model.specs.Held.{none_held, node_at};
 ghost use Rattle.service_model.specs.Certs.{AllKeep};
 ghost use Rattle.tree_order.specs.Forest.{IsForest};
+ghost use Rattle.table_pool.specs.Pools.{IsPool};
 ghost use Rattle.range_branch.specs.Solutions.{Solves};
 ghost use Rattle.range_branch.specs.Sizes.{IsShortCert};
-ghost use Rattle.range_branch.specs.Roots.{RiseByStage};
+ghost use Rattle.range_branch.specs.Roots.{RiseByStage, AreRootsOf};
 ghost use Rattle.range_branch.specs.OneNode.{IsWholeCert};
 
 use crate::cert::cert_of;
@@ -64,6 +65,8 @@ pub fn search<L>(
     ensures head { IfOk result (λ c. c.head.budget ≡ budget) }
     ensures one { IfOk result (λ c. (length c.nodes ≡ 1) × (c.splits ≡ [])) }
     ensures seen { IfOk result (λ c. (node_at c.nodes 0).seen ≡ length c.tables) }
+    ensures tables { IfOk result (λ c. IsPool network.now c.tables) }
+    ensures roots { IfOk result (λ c. AreRootsOf forest.now c.tables (node_at c.nodes 0).roots) }
     ensures rise { IfOk result (λ c. RiseByStage c.tables (node_at c.nodes 0).roots) }
     ensures solved { IfOk result (λ c. Solves network.now c.verdict) }
     ensures short { IfOk result (IsShortCert network.now) }
