@@ -82,12 +82,15 @@ keeps_end n f budget tables count count' x given rule =
       bound = omega (arith, bound);
       plan = in_range n x.bound x.plan given.valid solution;
     } in
-    let told : EndsAsTold n (all_held n budget tables x) (verdict_by x) = (x.plan, record {
-      is_found = found;
-      least = x.bound;
-      is_least = only_least tables (reverse x.roots) x.bound (bound_back tables x.roots ∙ sym bound);
-      ends = ends_with n x.bound 1 budget x.plan solution;
-    }) in
+    let told : EndsAsTold n (all_held n budget tables x) (verdict_by x) = (
+      x.plan,
+      record {
+        is_found = found;
+        least = x.bound;
+        is_least = only_least tables (reverse x.roots) x.bound (bound_back tables x.roots ∙ sym bound);
+        ends = ends_with n x.bound 1 budget x.plan solution;
+      },
+    ) in
     let plan : HasEndingPlan n (all_held n budget tables x) (verdict_by x) = λ other is.
     own_plan x.plan ∙ ap (ending_plan (outcome_of x.plan)) (found_one_law n (x.plan ∷ []) x.plan other given.valid found is) in
     rule_or (rule == SHAPE) _ _ range (

@@ -3,5 +3,7 @@
 
 mod branch;
 mod cert;
+#[cfg(test)]
+mod tests;
 
 pub use branch::search;
