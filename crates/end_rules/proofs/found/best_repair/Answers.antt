@@ -1,5 +1,4 @@
-use Rattle.std.proofs.Common.{Some, ap, ◌∙◌, subst, sym}
-use Rattle.service_model.specs.Repairs.{FoundOf, better}
+use Rattle.std.proofs.Common.{Some}
 use Rattle.end_rules.proofs.FoundFacts.{found_from}
 use Rattle.end_rules.proofs.found.best_repair.Goals as goal
 
