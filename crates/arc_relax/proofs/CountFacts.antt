@@ -46,7 +46,7 @@ apart n r f tables numbers i j have low high less =
     omega (arith, less, equal))
 
 -- there are no more tables than stages, where each table is a stage's
-no_more : (numbers : List ℕ) (n m : ℕ) → ((i : ℕ) → i < m → (j : ℕ) × (j < n) × (get_or numbers j 0 ≡ i)) → m ≤ n
+pub no_more : (numbers : List ℕ) (n m : ℕ) → ((i : ℕ) → i < m → (j : ℕ) × (j < n) × (get_or numbers j 0 ≡ i)) → m ≤ n
 no_more numbers n m fresh =
     let each : (q : ℕ) → q < m → list_any (eqb q) (numbers_to numbers n) ≡ true = λ q low. (let j = fresh q low in
     let inside : j.0 < length (numbers_to numbers n) = omega (arith, j.1, long numbers n) in

@@ -63,7 +63,7 @@ raised_ge : (leads : Bool) (x y z : ℕ) → z ≤ y → z ≤ cond leads (max x
 raised_ge true x y z le = omega arith
 raised_ge false x y z le = le
 
-latest_ge : (arcs : List SupplyArc) (starts : List ℕ) (j start : ℕ) → start ≤ latest_start arcs starts j start
+pub latest_ge : (arcs : List SupplyArc) (starts : List ℕ) (j start : ℕ) → start ≤ latest_start arcs starts j start
 latest_ge [] starts j start = omega arith
 latest_ge (a ∷ arcs) starts j start =
     raised_ge (a.customer == j) (get_or starts a.supplier 0 + a.transit) (latest_start arcs starts j start) start (latest_ge arcs starts j start)

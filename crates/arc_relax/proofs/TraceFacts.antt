@@ -39,7 +39,8 @@ between_tables : (n : Net) (p : Plan) (s t : Table) (j c : ℕ) → s.stage ≡ 
 between_tables n p s t j c is is' met =
     subst (λ x. MeetsChild s.kind n.arcs p x t.stage) (sym is) (subst (λ y. MeetsChild s.kind n.arcs p c y) (sym is') met)
 
-fits_traced : (n : Net) (r : Range) (f : Forest) (tables : List Table) (numbers : List ℕ) (p : Plan) → IsNetwork n → IsForest (length n.stages) n.arcs f
+-- a relaxed plan is within each stage's table and those below it, and meets the arcs between them
+pub fits_traced : (n : Net) (r : Range) (f : Forest) (tables : List Table) (numbers : List ℕ) (p : Plan) → IsNetwork n → IsForest (length n.stages) n.arcs f
     → HaveTables n r f tables numbers → IsRelaxedPlan n r f.parent p → (steps j : ℕ) → j < length n.stages → TracedWithin steps n tables p (get_or numbers j 0)
 fits_traced n r f tables numbers p valid forest has relaxed zero j low = tt
 fits_traced n r f tables numbers p valid forest has relaxed (suc steps) j low =
