@@ -1,4 +1,6 @@
-pub mod Solutions
 pub mod Sizes
-pub mod Roots
-pub mod OneNode
+pub mod Solutions
+pub mod Progress
+pub mod First
+pub mod Steps
+pub mod Own

@@ -1,19 +1,20 @@
-// The search over ranges. Where the forest drops no arc, it ends with the whole range.
-ghost use Rattle.std.specs.Prelude.{◌≡◌, ◌+◌, ◌≤◌, ◌^◌, ◌∷◌, [], IfOk, OnOk, OnErr, length};
-ghost use Rattle.service_model.specs.Faults.{IsNetwork};
+// The search over ranges.
+ghost use Rattle.std.specs.Prelude.{◌≡◌, ◌≢◌, ◌+◌, ◌*◌, ◌≤◌, ◌^◌, [], IfOk, OnOk, OnErr, length};
 ghost use Rattle.service_model.specs.Orders.{IsTopological};
-ghost use Rattle.service_model.specs.Items.{items_of};
-ghost use Rattle.service_model.specs.Held.{none_held, node_at};
-ghost use Rattle.service_model.specs.Certs.{AllKeep};
+ghost use Rattle.service_model.specs.Verdicts.{IsTrueOf};
+ghost use Rattle.service_model.specs.Held.{node_at};
 ghost use Rattle.tree_order.specs.Forest.{IsForest};
-ghost use Rattle.table_pool.specs.Pools.{IsPool};
 ghost use Rattle.range_branch.specs.Solutions.{Solves};
 ghost use Rattle.range_branch.specs.Sizes.{IsShortCert};
-ghost use Rattle.range_branch.specs.Roots.{RiseByStage, AreRootsOf};
-ghost use Rattle.range_branch.specs.OneNode.{IsWholeCert};
+ghost use Rattle.range_branch.specs.Own.{IsOwn};
+ghost use Rattle.range_branch.specs.Progress.{IsGiven};
+ghost use Rattle.range_branch.specs.Steps.{IsSearched};
 
 use crate::cert::cert_of;
-use arc_relax::relax;
+use crate::first::first_progress;
+use crate::progress::Given;
+use crate::split::split_leaf;
+use range_splits::ending_of;
 use service_model::cert_rules::MAX_BUDGET;
 use service_model::{Cert, List, Network, NoMemory};
 use std::alloc::Global;
@@ -21,31 +22,41 @@ use step_ledger::Steps;
 use table_pool::Pool;
 use tree_order::Forest;
 
-// The certificate of the whole range, relaxed from no tables on.
-fn whole_cert<L>(
+// The certificate of a search that begins with no tables.
+fn searched<L>(
     alloc: Global,
-    network: &Network,
-    forest: &Forest,
-    budget: u32,
+    given: &Given<'_>,
     pool: &mut Pool,
     steps: &mut Steps<L>,
 ) -> Result<Cert, NoMemory>
-    requires forest { IsForest (length network.now.stages) network.now.arcs forest.now }
+    requires given { IsGiven given.now }
     requires pool { pool.old ≡ [] }
     requires room { steps.old ≤ 2 ^ 62 }
-    ensures cert { IfOk result (IsWholeCert network.now forest.now budget pool.new steps.old steps.new) }
+    ensures cert { IfOk result (IsSearched given.now.network.now given.now.forest.now given.now.budget pool.new) }
+    ensures steps { OnOk result (steps.new ≡ steps.old + length pool.new) }
     ensures later { steps.old ≤ steps.new }
-    ensures few { steps.new ≤ steps.old + length network.now.stages }
-    ensures valid { IsNetwork network.now }
+    ensures few { steps.new ≤ steps.old + given.now.budget * length given.now.network.now.stages }
 {
-    let _stages = network.stages().len();
-    let range = network.whole(alloc)?;
-    let relaxed = relax(alloc, network, forest, &range, pool, steps)?;
-    cert_of(alloc, network, budget, pool, relaxed)
+    let mut progress = first_progress(alloc, given, pool, steps)?;
+    'splits: loop {
+        let Some(leaf) = progress.leaves.least() else {
+            unreachable!()
+        };
+        let nodes = progress.nodes.len();
+        match ending_of(given.network, given.budget, nodes, leaf.bound, &progress.found) {
+            Some(outcome) => {
+                return cert_of(alloc, given, pool, progress, outcome, leaf.bound);
+            }
+            None => {
+                progress = split_leaf(alloc, given, progress, leaf, pool, steps)?;
+            }
+        }
+    }
 }
 
-/// The certificate of a search over a network whose forest drops no arc: one node, the whole range. Its tables are those
-/// of the pool, which was cleared first; after a refusal the pool is empty. `order` has suppliers first. Each table is a step.
+/// The certificate of a search: while it has not ended, the leaf of least bound, the lowest number among equals, is split at
+/// the arc that its relaxed plan breaks most. Its tables are those of the pool, which was cleared first; after a refusal the
+/// pool is empty. `order` has suppliers first. Each table is a step.
 pub fn search<L>(
     alloc: Global,
     network: &Network,
@@ -56,28 +67,31 @@ pub fn search<L>(
     steps: &mut Steps<L>,
 ) -> Result<Cert, NoMemory>
     requires forest { IsForest (length network.now.stages) network.now.arcs forest.now }
-    requires tree { forest.now.dropped ≡ [] }
     requires order { IsTopological (length network.now.stages) network.now.arcs order.now }
     requires some_budget { 1 ≤ budget }
     requires budget { budget ≤ MAX_BUDGET }
     requires room { steps.old ≤ 2 ^ 62 }
-    ensures keep { IfOk result (λ c. AllKeep network.now none_held (items_of c)) }
-    ensures head { IfOk result (λ c. c.head.budget ≡ budget) }
-    ensures one { IfOk result (λ c. (length c.nodes ≡ 1) × (c.splits ≡ [])) }
-    ensures seen { IfOk result (λ c. (node_at c.nodes 0).seen ≡ length c.tables) }
-    ensures tables { IfOk result (λ c. IsPool network.now c.tables) }
-    ensures roots { IfOk result (λ c. AreRootsOf forest.now c.tables (node_at c.nodes 0).roots) }
-    ensures rise { IfOk result (λ c. RiseByStage c.tables (node_at c.nodes 0).roots) }
-    ensures solved { IfOk result (λ c. Solves network.now c.verdict) }
+    ensures own { IfOk result (IsOwn network.now forest.now budget) }
+    ensures true_verdict { IfOk result (λ c. IsTrueOf network.now c.verdict) }
     ensures short { IfOk result (IsShortCert network.now) }
+    // Where the forest drops no arc, one node solves the network.
+    ensures one { IfOk result (λ c. forest.now.dropped ≡ [] → (length c.nodes ≡ 1) × (c.splits ≡ [])) }
+    ensures seen { IfOk result (λ c. forest.now.dropped ≡ [] → (node_at c.nodes 0).seen ≡ length c.tables) }
+    ensures solved { IfOk result (λ c. forest.now.dropped ≡ [] → Solves network.now c.verdict) }
     ensures pool { IfOk result (λ c. pool.new ≡ c.tables) }
     ensures emptied { OnErr result (pool.new ≡ []) }
-    ensures filled { OnOk result (steps.new ≡ steps.old + length network.now.stages) }
+    ensures filled { IfOk result (λ c. steps.new ≡ steps.old + length c.tables) }
     ensures later { steps.old ≤ steps.new }
-    ensures few { steps.new ≤ steps.old + length network.now.stages }
+    ensures few { steps.new ≤ steps.old + budget * length network.now.stages }
 {
+    let given = Given {
+        network,
+        forest,
+        order,
+        budget,
+    };
     pool.clear();
-    match whole_cert(alloc, network, forest, budget, pool, steps) {
+    match searched(alloc, &given, pool, steps) {
         Ok(cert) => Ok(cert),
         Err(refusal) => {
             pool.clear();

@@ -1,9 +1,13 @@
-// The certificate of one range that was relaxed.
-ghost use Rattle.std.specs.Prelude.{◌≡◌, ◌<◌, ◌^◌, ◌∷◌, [], IfOk, length, reverse};
-ghost use Rattle.range_branch.specs.OneNode.{verdict_by, node_by, cert_by};
+// The certificate of a search that ended.
+ghost use Rattle.std.specs.Prelude.{◌≡◌, IfOk, IfSome};
+ghost use Rattle.service_model.specs.Plans.{Feasible};
+ghost use Rattle.service_model.specs.Verdicts.{ending_plan};
+ghost use Rattle.range_splits.specs.Open.{ending_bound};
+ghost use Rattle.range_branch.specs.Steps.{IsEnd};
 
-use arc_relax::Relaxed;
-use service_model::{Cert, Head, List, Network, NoMemory, Node, Outcome, Plan, Table, Verdict};
+use crate::progress::{Given, Progress};
+use range_splits::ending_bound;
+use service_model::{Cert, Head, List, NoMemory, Outcome, Plan, Table, Verdict};
 use std::alloc::Global;
 use table_pool::Pool;
 use tree_tables::Filled;
@@ -19,66 +23,44 @@ fn copies_of(alloc: Global, made: &[Filled]) -> Result<List<Table>, NoMemory>
     Ok(tables)
 }
 
-fn optimal(alloc: Global, bound: u64, plan: &Plan) -> Result<Verdict, NoMemory>
-    ensures { IfOk result (λ v. v ≡ record { outcome = Outcome.Optimal; bound = bound; plan = Some plan.now }) }
+// The plan of a search that ends with the outcome.
+fn ending_plan(outcome: Outcome, found: Option<Plan>) -> Option<Plan>
+    ensures { result ≡ ending_plan outcome found }
 {
-    Ok(Verdict {
-        outcome: Outcome::Optimal,
-        bound,
-        plan: Some(plan.copy(alloc)?),
-    })
-}
-
-// The relaxed plan is optimal where there is one, since it meets every arc.
-fn verdict_of(alloc: Global, relaxed: &Relaxed) -> Result<Verdict, NoMemory>
-    ensures { IfOk result (λ v. v ≡ verdict_by relaxed.now) }
-{
-    match &relaxed.plan {
-        Some(plan) => optimal(alloc, relaxed.bound, plan),
-        None => Ok(Verdict {
-            outcome: Outcome::Infeasible,
-            bound: relaxed.bound,
-            plan: None,
-        }),
+    match outcome {
+        Outcome::Optimal | Outcome::Spent => found,
+        Outcome::Infeasible => None,
     }
 }
 
-// The node of the relaxed range, behind so many tables.
-fn node_of(alloc: Global, seen: u32, relaxed: Relaxed) -> Result<Node, NoMemory>
-    ensures { IfOk result (λ x. x ≡ record { seen = seen; roots = reverse relaxed.roots; relaxed = relaxed.plan }) }
-{
-    let roots = relaxed.roots.as_slice().iter().rev().copied();
-    Ok(Node {
-        seen,
-        roots: List::from_vec(roots.collect(alloc)?),
-        relaxed: relaxed.plan,
-    })
-}
-
-/// The certificate of the whole range, which was relaxed over these tables.
+/// The certificate of a search over these tables, which ends with the outcome at this least bound of a leaf.
 pub fn cert_of(
     alloc: Global,
-    network: &Network,
-    budget: u32,
+    given: &Given<'_>,
     pool: &Pool,
-    relaxed: Relaxed,
+    progress: Progress,
+    outcome: Outcome,
+    least: u64,
 ) -> Result<Cert, NoMemory>
-    requires { length pool.now < 2 ^ 32 }
-    ensures { IfOk result (λ c. c ≡ cert_by network.now budget pool.now relaxed) }
+    requires { IfSome progress.found (Feasible given.now.network.now) }
+    ensures { IfOk result (IsEnd given.now.network.now given.now.budget pool.now progress outcome
+        (ending_bound outcome given.now.network.now progress.found least)) }
 {
     let tables = copies_of(alloc, pool.filled())?;
-    let verdict = verdict_of(alloc, &relaxed)?;
-    let mut nodes = List::new(alloc);
-    nodes.push(node_of(alloc, tables.len() as u32, relaxed)?)?;
+    let bound = ending_bound(given.network, outcome, least, &progress.found);
     Ok(Cert {
         head: Head {
-            horizon: network.horizon(),
-            stages: network.stages().len() as u32,
-            budget,
+            horizon: given.network.horizon(),
+            stages: given.network.stages().len() as u32,
+            budget: given.budget,
         },
         tables,
-        nodes,
-        splits: List::new(alloc),
-        verdict,
+        nodes: progress.nodes,
+        splits: progress.splits,
+        verdict: Verdict {
+            outcome,
+            bound,
+            plan: ending_plan(outcome, progress.found),
+        },
     })
 }

@@ -3,7 +3,9 @@
 
 mod branch;
 mod cert;
-#[cfg(test)]
-mod tests;
+mod first;
+mod halves;
+mod progress;
+mod split;
 
 pub use branch::search;
