@@ -21,22 +21,36 @@ use Rattle.planner_top.specs.Answers.{IsProblem, IsRefusal, IsDone, MayEnd, endi
 not_words : (t : Task) (rows : List (List (List ℕ))) (filled : ℕ) → IsDone ending.Words rows filled t → ⊥
 not_words (task.Solve c f) rows filled is = is
 not_words (task.Audit c plan) rows filled is = is.0
+not_words (task.Check c bytes) rows filled is = is.0
 
 done_may_end : (c : Command) (t : Task) (e : Ending) (rows : List (List (List ℕ))) (filled : ℕ) → IsTaskOf c t → IsDone e rows filled t → MayEnd c e
 done_may_end command.Solve (task.Solve c f) ending.NotFeasible rows filled own is = absurd is
+done_may_end command.Solve (task.Solve c f) ending.NotAccepted rows filled own is = absurd is
 done_may_end command.Solve (task.Solve c f) ending.Done rows filled own is = tt
 done_may_end command.Solve (task.Solve c f) ending.Infeasible rows filled own is = tt
 done_may_end command.Solve (task.Solve c f) ending.Words rows filled own is = absurd is
 done_may_end command.Solve (task.Solve c f) ending.Refused rows filled own is = absurd is
 done_may_end command.Solve (task.Solve c f) ending.TooLong rows filled own is = absurd is
 done_may_end command.Audit (task.Audit c plan) ending.Infeasible rows filled own is = absurd is.0
+done_may_end command.Audit (task.Audit c plan) ending.NotAccepted rows filled own is = absurd is.0
 done_may_end command.Audit (task.Audit c plan) ending.Done rows filled own is = tt
 done_may_end command.Audit (task.Audit c plan) ending.NotFeasible rows filled own is = tt
 done_may_end command.Audit (task.Audit c plan) ending.Words rows filled own is = absurd is.0
 done_may_end command.Audit (task.Audit c plan) ending.Refused rows filled own is = absurd is.0
 done_may_end command.Audit (task.Audit c plan) ending.TooLong rows filled own is = absurd is.0
+done_may_end command.Check (task.Check c bytes) ending.Infeasible rows filled own is = absurd is.0
+done_may_end command.Check (task.Check c bytes) ending.NotFeasible rows filled own is = absurd is.0
+done_may_end command.Check (task.Check c bytes) ending.Done rows filled own is = tt
+done_may_end command.Check (task.Check c bytes) ending.NotAccepted rows filled own is = tt
+done_may_end command.Check (task.Check c bytes) ending.Words rows filled own is = absurd is.0
+done_may_end command.Check (task.Check c bytes) ending.Refused rows filled own is = absurd is.0
+done_may_end command.Check (task.Check c bytes) ending.TooLong rows filled own is = absurd is.0
 done_may_end command.Solve (task.Audit c plan) e rows filled own is = absurd own
+done_may_end command.Solve (task.Check c bytes) e rows filled own is = absurd own
 done_may_end command.Audit (task.Solve c f) e rows filled own is = absurd own
+done_may_end command.Audit (task.Check c bytes) e rows filled own is = absurd own
+done_may_end command.Check (task.Solve c f) e rows filled own is = absurd own
+done_may_end command.Check (task.Audit c plan) e rows filled own is = absurd own
 
 one_asked : (words : List (List ℕ)) (q r : Asked) → asked_of words ≡ Ok q → asked_of words ≡ Ok r → q ≡ r
 one_asked words q r is also = cc
@@ -69,6 +83,9 @@ refused_may_end command.Solve (stop.Refused fault) = tt
 refused_may_end command.Audit (stop.Words fault) = tt
 refused_may_end command.Audit (stop.TooLong word) = tt
 refused_may_end command.Audit (stop.Refused fault) = tt
+refused_may_end command.Check (stop.Words fault) = tt
+refused_may_end command.Check (stop.TooLong word) = tt
+refused_may_end command.Check (stop.Refused fault) = tt
 
 told_refused : (words : List (List ℕ)) (held : Option Held) (e : Ending) (rows : List (List (List ℕ))) (filled : ℕ) (s : Stop) → IfSome held (λ m. IsProblem words m (Err s)) → IsRefusal e rows filled s
     → IfSome held (λ m. (problem : Result Task Stop) × IsProblem words m problem × MatchResult problem (IsDone e rows filled) (IsRefusal e rows filled))

@@ -19,6 +19,7 @@ ending_in status.Infeasible = Some ending.Infeasible
 ending_in status.Words = Some ending.Words
 ending_in status.Refused = Some ending.Refused
 ending_in status.TooLong = Some ending.TooLong
+ending_in status.NotAccepted = Some ending.NotAccepted
 ending_in status.NotFeasible = Some ending.NotFeasible
 ending_in _ = None
 
@@ -28,6 +29,7 @@ ending_told ending.Infeasible = refl
 ending_told ending.Words = refl
 ending_told ending.Refused = refl
 ending_told ending.TooLong = refl
+ending_told ending.NotAccepted = refl
 ending_told ending.NotFeasible = refl
 
 -- each ending has a status of its own
@@ -58,7 +60,7 @@ answered_headline r e shelf writes same answered = record {
   writes = writes;
   later = answered_later r e answered;
   complete = λ sure. (e, same);
-  never = (λ also. absurd (other_ending status.Spent e refl (sym same ∙ also)), λ also. absurd (other_ending status.NotAccepted e refl (sym same ∙ also)));
+  never = λ also. absurd (other_ending status.Spent e refl (sym same ∙ also));
   answer = λ other also. subst (λ (x : Ending). Answered r x) (one_ending other e (sym also ∙ same)) answered;
   exact = λ other m also told.
       subst (λ (x : Ending). Exactly r.words m x) (one_ending other e (sym also ∙ same)) (told_exactly r.words r.held m e answered.2.0 answered.2.1 told answered.2.3);
@@ -74,13 +76,14 @@ headline_by r status.Infeasible shelf writes same case = answered_headline r end
 headline_by r status.Words shelf writes same case = answered_headline r ending.Words shelf writes same case
 headline_by r status.Refused shelf writes same case = answered_headline r ending.Refused shelf writes same case
 headline_by r status.TooLong shelf writes same case = answered_headline r ending.TooLong shelf writes same case
+headline_by r status.NotAccepted shelf writes same case = answered_headline r ending.NotAccepted shelf writes same case
 headline_by r status.NotFeasible shelf writes same case = answered_headline r ending.NotFeasible shelf writes same case
 headline_by r status.ReadFault shelf writes same case = record {
   shelf = shelf;
   writes = writes;
   later = record { reads = case.0; faults = omega (arith, case.1.1); ticks = omega (arith, case.1.2); few = omega (arith, case.1.2) };
   complete = λ sure. absurd (sure.reads case.1.0);
-  never = (λ also. cc, λ also. cc);
+  never = λ also. cc;
   answer = λ e also. absurd (other_ending status.ReadFault e refl (sym also ∙ same));
   exact = λ e m also told. absurd (other_ending status.ReadFault e refl (sym also ∙ same));
   read_fault = λ also. case.1;
@@ -92,7 +95,7 @@ headline_by r status.WriteFault shelf writes same case = record {
   writes = writes;
   later = case.0;
   complete = λ sure. absurd (sure.writes case.1);
-  never = (λ also. cc, λ also. cc);
+  never = λ also. cc;
   answer = λ e also. absurd (other_ending status.WriteFault e refl (sym also ∙ same));
   exact = λ e m also told. absurd (other_ending status.WriteFault e refl (sym also ∙ same));
   read_fault = λ also. cc;
@@ -104,7 +107,7 @@ headline_by r status.NoMemory shelf writes same case = record {
   writes = writes;
   later = case.0;
   complete = λ sure. absurd (sure.memory same);
-  never = (λ also. cc, λ also. cc);
+  never = λ also. cc;
   answer = λ e also. absurd (other_ending status.NoMemory e refl (sym also ∙ same));
   exact = λ e m also told. absurd (other_ending status.NoMemory e refl (sym also ∙ same));
   read_fault = λ also. cc;
@@ -112,7 +115,6 @@ headline_by r status.NoMemory shelf writes same case = record {
   no_memory = λ also. case.1;
 }
 headline_by r status.Spent shelf writes same case = absurd case
-headline_by r status.NotAccepted shelf writes same case = absurd case
 
 pub headline_from : (r : Run) → r.held_after ≡ r.held → r.writes_after ≡ r.writes → StatusCase r r.status → Headline r
 headline_from r shelf writes case = headline_by r r.status shelf writes refl case

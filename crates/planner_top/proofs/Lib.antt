@@ -1,6 +1,7 @@
 pub mod AnswerFacts
 pub mod BreakFacts
 pub mod CaseFacts
+pub mod CheckFacts
 pub mod ExactFacts
 pub mod HeadlineFacts
 pub mod LeastFacts

@@ -3,13 +3,16 @@ use Rattle.std.specs.Prelude.{◌≡◌, ◌≤◌, ◌↔◌, ℕ, List, [], �
 use Rattle.service_model.specs.declared.plan.Plan.{Plan}
 use Rattle.service_model.specs.declared.breaks.Break.{Break}
 use Rattle.service_model.specs.Plans.{Feasible, Least, Empty}
+use Rattle.service_model.specs.declared.cert.Verdict.{Verdict}
 use Rattle.service_model.specs.Breaks.{first_break_of}
+use Rattle.service_model.specs.Verdicts.{IsTrueOf}
+use Rattle.cert_check.specs.Bytes.{IsAcceptedBytes, IsRefusedBytes}
 use Rattle.gsm_outside.specs.Held.{Held}
 use Rattle.network_check.specs.declared.checked.Checked.{Checked}
 use Rattle.planner_top.specs.Asked.{Asked, asked_of}
 use Rattle.planner_top.specs.Contents.{too_long_of, contents_of}
 use Rattle.planner_top.specs.Tasks.{IsTask}
-use Rattle.planner_top.specs.Texts.{plan_rows, infeasible_rows, audit_rows, broken_row, stop_row}
+use Rattle.planner_top.specs.Texts.{plan_rows, infeasible_rows, audit_rows, broken_row, valid_row, not_accepted_row, stop_row}
 use Rattle.planner_top.specs.declared.filled.TheConstants.{MOST_FILLED}
 use Rattle.planner_top.specs.declared.command.Command.{Command}
 use Rattle.planner_top.specs.declared.command.Command.TheVariants as command
@@ -55,15 +58,28 @@ IsAudit ending.NotFeasible rows c plan =
     (¬ Feasible c.network plan) × ((broken : Break) × (first_break_of c.network plan ≡ Some broken) × (rows ≡ broken_row c broken ∷ []))
 IsAudit _ rows c plan = ⊥
 
+-- the check of a certificate, with its line: it is accepted with a verdict, which is true of the network, or a rule fails on a line
+abbrev pub IsCheck : Ending → List (List (List ℕ)) → Checked → List ℕ → Type 0
+IsCheck ending.Done rows c bytes =
+    (v : Verdict) × IsAcceptedBytes c.network bytes v × IsTrueOf c.network v × (rows ≡ valid_row c.network v ∷ [])
+IsCheck ending.NotAccepted rows c bytes =
+    (line : ℕ) × (rule : ℕ) × IsRefusedBytes c.network bytes line rule × (rows ≡ not_accepted_row line rule ∷ [])
+IsCheck _ rows c bytes = ⊥
+
 -- a task that is done, with its lines and the number of tables that were filled for it
 abbrev pub IsDone : Ending → List (List (List ℕ)) → ℕ → Task → Type 0
 IsDone e rows filled (task.Solve c f) = IsSolution e rows filled c
 IsDone e rows filled (task.Audit c plan) = IsAudit e rows c plan × (filled ≡ 0)
+IsDone e rows filled (task.Check c bytes) = IsCheck e rows c bytes × (filled ≡ 0)
 
 -- a command may end so
 abbrev pub MayEnd : Command → Ending → Type 0
 MayEnd command.Solve ending.NotFeasible = ⊥
+MayEnd command.Solve ending.NotAccepted = ⊥
 MayEnd command.Audit ending.Infeasible = ⊥
+MayEnd command.Audit ending.NotAccepted = ⊥
+MayEnd command.Check ending.Infeasible = ⊥
+MayEnd command.Check ending.NotFeasible = ⊥
 MayEnd _ _ = ⊤
 
 -- an ending with its rows and the number of tables that were filled is the answer to words and to what a shelf holds, where the shelf tells

@@ -6,7 +6,9 @@ use Rattle.network_check.specs.declared.checked.Checked.{Checked}
 use Rattle.gsm_outside.specs.Held.{Held}
 use Rattle.gsm_outside.specs.Causes.{Rose}
 use Rattle.service_model.specs.declared.plan.Plan.{Plan}
+use Rattle.service_model.specs.declared.cert.Verdict.{Verdict}
 use Rattle.service_model.specs.Plans.{Feasible, Least, Empty}
+use Rattle.cert_check.specs.Bytes.{IsAcceptedBytes, IsRefusedBytes}
 use Rattle.planner_top.specs.Answers.{IsProblem}
 use Rattle.planner_top.specs.Runs.{Run, IsLater, Answered, FailedRead, PartPrinted, status_of}
 use Rattle.planner_top.specs.declared.task.Task.{Task}
@@ -19,10 +21,11 @@ use Rattle.planner_top.specs.declared.answer.Ending.{Ending}
 use Rattle.planner_top.specs.declared.answer.Ending.TheVariants as ending
 use Rattle.planner_top.specs.declared.status.Status.TheVariants as status
 
--- a task that can be done: there is a least plan, or the plan is feasible
+-- a task that can be done: there is a least plan, the plan is feasible, or the certificate is accepted
 abbrev pub CanBeDone : Task → Type 0
 CanBeDone (task.Solve c f) = (plan : Plan) × Least c.network plan
 CanBeDone (task.Audit c plan) = Feasible c.network plan
+CanBeDone (task.Check c bytes) = (v : Verdict) × IsAcceptedBytes c.network bytes v
 
 -- which ending comes exactly where, by what words and files ask to be done, or their refusal
 pub record Exactly (said : List (List ℕ)) (m : Held) (e : Ending) : Type 0 where
@@ -30,6 +33,9 @@ pub record Exactly (said : List (List ℕ)) (m : Held) (e : Ending) : Type 0 whe
   pub too_long : (e ≡ ending.TooLong) ↔ ((word : FileWord) × IsProblem said m (Err (stop.TooLong word)))
   pub refused : (e ≡ ending.Refused) ↔ ((fault : FileFault) × IsProblem said m (Err (stop.Refused fault)))
   pub infeasible : (e ≡ ending.Infeasible) ↔ ((c : Checked) × (f : Forest) × IsProblem said m (Ok (task.Solve c f)) × Empty c.network)
+  pub not_accepted :
+    (e ≡ ending.NotAccepted)
+    ↔ ((c : Checked) × (bytes : List ℕ) × IsProblem said m (Ok (task.Check c bytes)) × ((line : ℕ) × (rule : ℕ) × IsRefusedBytes c.network bytes line rule))
   pub not_feasible : (e ≡ ending.NotFeasible) ↔ ((c : Checked) × (plan : Plan) × IsProblem said m (Ok (task.Audit c plan)) × (¬ Feasible c.network plan))
   pub done : (e ≡ ending.Done) ↔ ((t : Task) × IsProblem said m (Ok t) × CanBeDone t)
 
@@ -46,8 +52,8 @@ pub record Headline (r : Run) : Type 0 where
   pub later : IsLater r
   -- where no call failed and memory sufficed there is an answer
   pub complete : IsSure r → (e : Ending) × (r.status ≡ status_of e)
-  -- no other status comes, whatever failed
-  pub never : (r.status ≢ status.Spent) × (r.status ≢ status.NotAccepted)
+  -- no budget is spent yet, whatever failed
+  pub never : r.status ≢ status.Spent
   -- an answer is true of the words and files where the shelf tells, its lines follow what was written, and no call failed
   pub answer : (e : Ending) → r.status ≡ status_of e → Answered r e
   -- and it comes exactly where its cause is, on a shelf that tells what it holds

@@ -34,6 +34,7 @@ IsUnreadOf words held word = (q : Asked) × (asked_of words ≡ Ok q) × IsUnrea
 abbrev pub IsTaskOf : Command → Task → Type 0
 IsTaskOf command.Solve (task.Solve c f) = ⊤
 IsTaskOf command.Audit (task.Audit c plan) = ⊤
+IsTaskOf command.Check (task.Check c bytes) = ⊤
 IsTaskOf _ _ = ⊥
 
 -- what a request asks to be done, or why there is nothing to do

@@ -62,6 +62,7 @@ status_of ending.Infeasible = status.Infeasible
 status_of ending.Words = status.Words
 status_of ending.Refused = status.Refused
 status_of ending.TooLong = status.TooLong
+status_of ending.NotAccepted = status.NotAccepted
 status_of ending.NotFeasible = status.NotFeasible
 
 -- no call failed, and the lines of the answer follow what was written
@@ -102,12 +103,12 @@ StatusCase r status.Infeasible = Answered r ending.Infeasible
 StatusCase r status.Words = Answered r ending.Words
 StatusCase r status.Refused = Answered r ending.Refused
 StatusCase r status.TooLong = Answered r ending.TooLong
+StatusCase r status.NotAccepted = Answered r ending.NotAccepted
 StatusCase r status.NotFeasible = Answered r ending.NotFeasible
 StatusCase r status.ReadFault = (r.reads ≤ r.reads_after) × FailedRead r
 StatusCase r status.WriteFault = IsLater r × Rose r.faults r.faults_after × PartPrinted r
 StatusCase r status.NoMemory = IsLater r × PartPrinted r
 StatusCase r status.Spent = ⊥
-StatusCase r status.NotAccepted = ⊥
 
 -- what the status of a run whose read failed says of its output
 abbrev pub FaultCase : FileWord → Option (List ℕ) → Option (List ℕ) → ℕ → ℕ → Status → Type 0

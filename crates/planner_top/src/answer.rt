@@ -14,6 +14,8 @@ pub enum Ending {
     Words,
     Refused,
     TooLong,
+    /// A rule fails on the certificate that was checked.
+    NotAccepted,
     /// The plan that was audited breaks a rule.
     NotFeasible,
 }

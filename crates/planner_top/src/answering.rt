@@ -9,6 +9,7 @@ ghost use Rattle.planner_top.specs.Problems.{ProblemCase, AskedCase, AnswerCase}
 use crate::answer::{Answer, Unanswered};
 use crate::asked::Request;
 use crate::audit::audit_of;
+use crate::check::check_of;
 use crate::files::read_files;
 use crate::filled::MOST_FILLED;
 use crate::refusal::refusal_of;
@@ -66,7 +67,7 @@ fn asked_problem<S: Shelf>(
     ensures writes { S.write_faults shelf.new ≡ S.write_faults shelf.old }
 {
     match read_files(alloc, shelf, request) {
-        Ok(contents) => task_of(alloc, request.command, request.horizon, &contents),
+        Ok(contents) => task_of(alloc, request.command, request.horizon, contents),
         Err(unsolved) => Err(unsolved),
     }
 }
@@ -82,5 +83,6 @@ fn done_of<L>(alloc: Global, task: &Task, steps: &mut Steps<L>) -> Result<Answer
     match task {
         Task::Solve(checked, forest) => solution_of(alloc, checked, forest, steps),
         Task::Audit(checked, plan) => audit_of(alloc, checked, plan),
+        Task::Check(checked, bytes) => check_of(alloc, checked, bytes.as_slice()),
     }
 }

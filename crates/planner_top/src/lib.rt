@@ -5,6 +5,7 @@ mod answer;
 mod answering;
 mod asked;
 mod audit;
+mod check;
 mod command;
 mod contents;
 mod fetch;
@@ -23,6 +24,8 @@ mod task;
 mod tests;
 #[cfg(test)]
 mod tests_audit;
+#[cfg(test)]
+mod tests_check;
 #[cfg(test)]
 mod tests_failed;
 #[cfg(test)]

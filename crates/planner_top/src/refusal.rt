@@ -98,5 +98,6 @@ pub fn file_text(file: FileWord) -> &'static str
         FileWord::Tables => "tables",
         FileWord::Arcs => "arcs",
         FileWord::Plan => "plan",
+        FileWord::Cert => "cert",
     }
 }

@@ -227,7 +227,7 @@ fn each_rule_on_files_is_printed_with_its_place(rt: HostRuntime) -> Result<(), F
 #[test]
 fn each_rule_on_words_is_printed_with_its_place(rt: HostRuntime) -> Result<(), Fail> {
     let alloc = rt.alloc();
-    let cases: [(&[&str], &str); 14] = [
+    let cases: [(&[&str], &str); 15] = [
         (&[], "words,W1,0\n"),
         (&["--help"], "words,W2,1\n"),
         (&["solve", "stages=s"], "words,W6,2\n"),
@@ -244,6 +244,10 @@ fn each_rule_on_words_is_printed_with_its_place(rt: HostRuntime) -> Result<(), F
         (&["solve", "plan=p"], "words,W4,2\n"),
         (
             &["audit", "stages=s", "tables=t", "arcs=a", "horizon=2"],
+            "words,W6,5\n",
+        ),
+        (
+            &["check", "stages=s", "tables=t", "arcs=a", "horizon=2"],
             "words,W6,5\n",
         ),
         (&["solve", "horizon=401"], "words,W7,2\n"),

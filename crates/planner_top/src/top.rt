@@ -66,6 +66,7 @@ fn status_of(ending: Ending) -> Status
         Ending::Words => Status::Words,
         Ending::Refused => Status::Refused,
         Ending::TooLong => Status::TooLong,
+        Ending::NotAccepted => Status::NotAccepted,
         Ending::NotFeasible => Status::NotFeasible,
     }
 }
