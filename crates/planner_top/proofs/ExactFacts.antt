@@ -20,7 +20,7 @@ use Rattle.planner_top.specs.declared.answer.Ending.{Ending}
 use Rattle.planner_top.specs.declared.answer.Ending.TheVariants as ending
 use Rattle.planner_top.specs.Answers.{IsProblem, IsSolution, IsAudit, IsCheck, IsDone, IsRefusal, ending_of, IsAnswer}
 use Rattle.planner_top.specs.Headline.{CanBeDone, Exactly}
-use Rattle.planner_top.proofs.CheckFacts.{not_both}
+use Rattle.cert_check.proofs.RefusalFacts.{not_both_law}
 use Rattle.planner_top.proofs.TaskFacts.{one_problem}
 
 -- which ending comes exactly where, by the one problem that there is
@@ -30,8 +30,8 @@ record ExactlyBy (problem : Result Task Stop) (e : Ending) : Type 0 where
   refused : (e ≡ ending.Refused) ↔ ((fault : FileFault) × (problem ≡ Err (stop.Refused fault)))
   infeasible : (e ≡ ending.Infeasible) ↔ ((c : Checked) × (f : Forest) × (problem ≡ Ok (task.Solve c f)) × Empty c.network)
   not_accepted :
-    (e ≡ ending.NotAccepted)
-    ↔ ((c : Checked) × (bytes : List ℕ) × (problem ≡ Ok (task.Check c bytes)) × ((line : ℕ) × (rule : ℕ) × IsRefusedBytes c.network bytes line rule))
+      (e ≡ ending.NotAccepted)
+      ↔ ((c : Checked) × (bytes : List ℕ) × (problem ≡ Ok (task.Check c bytes)) × ((line : ℕ) × (rule : ℕ) × IsRefusedBytes c.network bytes line rule))
   not_feasible : (e ≡ ending.NotFeasible) ↔ ((c : Checked) × (plan : Plan) × (problem ≡ Ok (task.Audit c plan)) × (¬ Feasible c.network plan))
   done : (e ≡ ending.Done) ↔ ((t : Task) × (problem ≡ Ok t) × CanBeDone t)
 
@@ -54,8 +54,8 @@ one_check c d p q same = (cc, cc)
 not_empty : (c d : Checked) (f : Forest) → d ≡ c → CanBeDone (task.Solve c f) → Empty d.network → ⊥
 not_empty c d f same least empty = subst (λ (x : Checked). Empty x.network) same empty least.0 least.1.feasible
 
-solved_exactly : (c : Checked) (f : Forest) (e : Ending) (rows : List (List (List ℕ))) (filled : ℕ) → IsSolution e rows filled c → ExactlyBy (Ok (task.Solve c f)) e
-solved_exactly c f ending.Done rows filled is = record {
+solved_exactly : (c : Checked) (f : Forest) (e : Ending) (rows : List (List (List ℕ))) (filled : ℕ) (cert : Option (List ℕ)) → IsSolution e rows filled cert c → ExactlyBy (Ok (task.Solve c f)) e
+solved_exactly c f ending.Done rows filled cert is = record {
   words = (λ same. cc, λ whole. (let also = whole.1 in cc));
   too_long = (λ same. cc, λ whole. (let also = whole.1 in cc));
   refused = (λ same. cc, λ whole. (let also = whole.1 in cc));
@@ -64,7 +64,7 @@ solved_exactly c f ending.Done rows filled is = record {
   not_feasible = (λ same. cc, λ whole. (let also = whole.2 in cc));
   done = (λ same. (task.Solve c f, refl, (is.0, is.1)), λ whole. refl);
 }
-solved_exactly c f ending.Infeasible rows filled is = record {
+solved_exactly c f ending.Infeasible rows filled cert is = record {
   words = (λ same. cc, λ whole. (let also = whole.1 in cc));
   too_long = (λ same. cc, λ whole. (let also = whole.1 in cc));
   refused = (λ same. cc, λ whole. (let also = whole.1 in cc));
@@ -73,11 +73,11 @@ solved_exactly c f ending.Infeasible rows filled is = record {
   not_feasible = (λ same. cc, λ whole. (let also = whole.2 in cc));
   done = (λ same. cc, λ whole. absurd (not_empty c c f refl (subst (λ (t : Task). CanBeDone t) (one_found (task.Solve c f) whole.0 whole.1) whole.2) is.0));
 }
-solved_exactly c f ending.Words rows filled is = absurd is
-solved_exactly c f ending.Refused rows filled is = absurd is
-solved_exactly c f ending.TooLong rows filled is = absurd is
-solved_exactly c f ending.NotAccepted rows filled is = absurd is
-solved_exactly c f ending.NotFeasible rows filled is = absurd is
+solved_exactly c f ending.Words rows filled cert is = absurd is
+solved_exactly c f ending.Refused rows filled cert is = absurd is
+solved_exactly c f ending.TooLong rows filled cert is = absurd is
+solved_exactly c f ending.NotAccepted rows filled cert is = absurd is
+solved_exactly c f ending.NotFeasible rows filled cert is = absurd is
 
 breaks_still : (c d : Checked) (p q : Plan) → (d ≡ c) × (q ≡ p) → (¬ Feasible d.network q) → Feasible c.network p → ⊥
 breaks_still c d p q same breaks feasible =
@@ -111,7 +111,7 @@ audited_exactly c p ending.NotAccepted rows is = absurd is
 -- a certificate that is accepted is not refused
 accepted_still : (c d : Checked) (a b : List ℕ) (v : Verdict) (line rule : ℕ) → (d ≡ c) × (b ≡ a) → IsAcceptedBytes c.network a v → IsRefusedBytes d.network b line rule → ⊥
 accepted_still c d a b v line rule same accepted refused =
-    not_both c.network a v line rule accepted (subst (λ (x : Checked). IsRefusedBytes x.network a line rule) same.0 (subst (λ (x : List ℕ). IsRefusedBytes d.network x line rule) same.1 refused))
+    not_both_law c.network a v line rule accepted (subst (λ (x : Checked). IsRefusedBytes x.network a line rule) same.0 (subst (λ (x : List ℕ). IsRefusedBytes d.network x line rule) same.1 refused))
 
 checked_exactly : (c : Checked) (bytes : List ℕ) (e : Ending) (rows : List (List (List ℕ))) → IsCheck e rows c bytes → ExactlyBy (Ok (task.Check c bytes)) e
 checked_exactly c bytes ending.Done rows is = record {
@@ -130,7 +130,7 @@ checked_exactly c bytes ending.NotAccepted rows is = record {
   infeasible = (λ same. cc, λ whole. (let also = whole.2 in cc));
   not_accepted = (λ same. (c, bytes, refl, (is.0, is.1, is.2)), λ whole. refl);
   not_feasible = (λ same. cc, λ whole. (let also = whole.2 in cc));
-  done = (λ same. cc, λ whole. (let can = subst (λ (t : Task). CanBeDone t) (one_found (task.Check c bytes) whole.0 whole.1) whole.2 in absurd (not_both c.network bytes can.0 is.0 is.1 can.1 is.2)));
+  done = (λ same. cc, λ whole. (let can = subst (λ (t : Task). CanBeDone t) (one_found (task.Check c bytes) whole.0 whole.1) whole.2 in absurd (not_both_law c.network bytes can.0 is.0 is.1 can.1 is.2)));
 }
 checked_exactly c bytes ending.Words rows is = absurd is
 checked_exactly c bytes ending.Refused rows is = absurd is
@@ -167,11 +167,11 @@ refusal_exactly (stop.Refused fault) = record {
   done = (λ same. cc, λ whole. (let also = whole.1 in cc));
 }
 
-exactly_by : (problem : Result Task Stop) (e : Ending) (rows : List (List (List ℕ))) (filled : ℕ) → MatchResult problem (IsDone e rows filled) (IsRefusal e rows filled) → ExactlyBy problem e
-exactly_by (Ok (task.Solve c f)) e rows filled is = solved_exactly c f e rows filled is
-exactly_by (Ok (task.Audit c p)) e rows filled is = audited_exactly c p e rows is.0
-exactly_by (Ok (task.Check c bytes)) e rows filled is = checked_exactly c bytes e rows is.0
-exactly_by (Err s) e rows filled is = subst (λ (x : Ending). ExactlyBy (Err s) x) (sym is.0) (refusal_exactly s)
+exactly_by : (problem : Result Task Stop) (e : Ending) (rows : List (List (List ℕ))) (filled : ℕ) (cert : Option (List ℕ)) → MatchResult problem (IsDone e rows filled cert) (IsRefusal e rows filled cert) → ExactlyBy problem e
+exactly_by (Ok (task.Solve c f)) e rows filled cert is = solved_exactly c f e rows filled cert is
+exactly_by (Ok (task.Audit c p)) e rows filled cert is = audited_exactly c p e rows is.0
+exactly_by (Ok (task.Check c bytes)) e rows filled cert is = checked_exactly c bytes e rows is.0
+exactly_by (Err s) e rows filled cert is = subst (λ (x : Ending). ExactlyBy (Err s) x) (sym is.0) (refusal_exactly s)
 
 exactly_from : (words : List (List ℕ)) (m : Held) (problem : Result Task Stop) (e : Ending) → IsProblem words m problem → ExactlyBy problem e → Exactly words m e
 exactly_from words m problem e is by =
@@ -188,7 +188,7 @@ exactly_from words m problem e is by =
     }
 
 -- an answer comes exactly where its cause is, on a shelf that tells what it holds
-pub told_exactly : (words : List (List ℕ)) (held : Option Held) (m : Held) (e : Ending) (rows : List (List (List ℕ))) (filled : ℕ) → held ≡ Some m → IsAnswer words held e rows filled → Exactly words m e
-told_exactly words held m e rows filled told is =
-    let there = subst (λ (h : Option Held). IfSome h (λ x. (problem : Result Task Stop) × IsProblem words x problem × MatchResult problem (IsDone e rows filled) (IsRefusal e rows filled))) told is.told in
-    exactly_from words m there.0 e there.1 (exactly_by there.0 e rows filled there.2)
+pub told_exactly : (words : List (List ℕ)) (held : Option Held) (m : Held) (e : Ending) (rows : List (List (List ℕ))) (filled : ℕ) (cert : Option (List ℕ)) → held ≡ Some m → IsAnswer words held e rows filled cert → Exactly words m e
+told_exactly words held m e rows filled cert told is =
+    let there = subst (λ (h : Option Held). IfSome h (λ x. (problem : Result Task Stop) × IsProblem words x problem × MatchResult problem (IsDone e rows filled cert) (IsRefusal e rows filled cert))) told is.told in
+    exactly_from words m there.0 e there.1 (exactly_by there.0 e rows filled cert there.2)

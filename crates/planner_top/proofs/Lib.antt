@@ -1,10 +1,12 @@
 pub mod AnswerFacts
 pub mod BreakFacts
 pub mod CaseFacts
-pub mod CheckFacts
 pub mod ExactFacts
 pub mod HeadlineFacts
-pub mod LeastFacts
+pub mod PutFacts
+pub mod SolveFacts
+pub mod StatusFacts
+pub mod WrittenFacts
 pub mod ProblemFacts
 pub mod ReadFacts
 pub mod ReportFacts

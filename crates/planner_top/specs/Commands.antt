@@ -28,7 +28,7 @@ required_keys Check = Stages ∷ Tables ∷ Arcs ∷ Horizon ∷ Cert ∷ []
 
 -- the further keys that a command takes
 abbrev pub further_keys : Command → List Key
-further_keys Solve = []
+further_keys Solve = Cert ∷ []
 further_keys Audit = []
 further_keys Check = []
 
@@ -63,6 +63,12 @@ abbrev pub further_file : Command → Option FileWord
 further_file Solve = None
 further_file Audit = Some file.Plan
 further_file Check = Some file.Cert
+
+-- the file that a command writes where its key is given, if there is one
+abbrev pub written_file : Command → Option FileWord
+written_file Solve = Some file.Cert
+written_file Audit = None
+written_file Check = None
 
 -- the command that a word names, if it is one
 abbrev pub command_named : List ℕ → Option Command

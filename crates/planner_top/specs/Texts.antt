@@ -144,6 +144,10 @@ stop_row (stop.Words fault) = word_row fault
 stop_row (stop.TooLong word) = codes "too long" ∷ file_text word ∷ []
 stop_row (stop.Refused fault) = refused_row fault
 
+-- what is printed where the certificate could not be written
+abbrev pub write_fault_row : List (List ℕ)
+write_fault_row = codes "write fault" ∷ codes "cert" ∷ []
+
 -- what is printed where a file could not be read
 abbrev pub fault_row : FileWord → List (List ℕ)
 fault_row word = codes "read fault" ∷ file_text word ∷ []

@@ -3,6 +3,7 @@ ghost use Rattle.std.specs.Prelude.{◌≡◌, ◌≤◌, ◌+◌, ◌-◌, ◌^
 ghost use Rattle.service_model.specs.declared.limits.TheConstants.{MAX_HORIZON};
 ghost use Rattle.planner_top.specs.Requests.{request_as};
 ghost use Rattle.planner_top.specs.Tasks.{IsReady};
+ghost use Rattle.planner_top.specs.Certificates.{bytes_in};
 ghost use Rattle.planner_top.specs.Answers.{IsDone};
 ghost use Rattle.planner_top.specs.Problems.{ProblemCase, AskedCase, AnswerCase};
 
@@ -76,7 +77,7 @@ fn asked_problem<S: Shelf>(
 fn done_of<L>(alloc: Global, task: &Task, steps: &mut Steps<L>) -> Result<Answer, NoMemory>
     requires ready { IsReady task.now }
     requires room { steps.old ≤ 2 ^ 62 }
-    ensures done { IfOk result (λ a. IsDone a.ending a.rows (steps.new - steps.old) task.now) }
+    ensures done { IfOk result (λ a. IsDone a.ending a.rows (steps.new - steps.old) (bytes_in a.cert) task.now) }
     ensures later { steps.old ≤ steps.new }
     ensures few { steps.new ≤ steps.old + MOST_FILLED }
 {

@@ -1,5 +1,5 @@
 // The answer of `check`.
-ghost use Rattle.std.specs.Prelude.{◌≡◌, ◌≤◌, ◌∷◌, [], length, IfOk, IfSome};
+ghost use Rattle.std.specs.Prelude.{◌≡◌, ◌≤◌, ◌∷◌, [], length, IfOk, IfSome, None};
 ghost use Rattle.service_model.specs.Plans.{Feasible};
 ghost use Rattle.service_model.specs.Verdicts.{IsTrueOf};
 ghost use Rattle.planner_top.specs.Texts.{valid_row, cost_text, not_accepted_row, cert_rule_text};
@@ -17,16 +17,19 @@ use std::alloc::Global;
 /// The verdict with which a certificate is accepted, or the first rule that fails on it, with its line.
 pub fn check_of(alloc: Global, checked: &Checked, bytes: &[u8]) -> Result<Answer, NoMemory>
     requires { length bytes.now ≤ CERT_LIMIT }
-    ensures { IfOk result (λ a. IsCheck a.ending a.rows checked.now bytes.now) }
+    ensures check { IfOk result (λ a. IsCheck a.ending a.rows checked.now bytes.now) }
+    ensures none { IfOk result (λ a. a.cert ≡ None) }
 {
     match check_bytes(alloc, &checked.network, bytes) {
         Ok(verdict) => Ok(Answer {
             ending: Ending::Done,
             rows: valid_rows(alloc, &checked.network, &verdict)?,
+            cert: None,
         }),
         Err(CheckFault::Fault(fault)) => Ok(Answer {
             ending: Ending::NotAccepted,
             rows: not_accepted_rows(alloc, fault.line, fault.rule)?,
+            cert: None,
         }),
         Err(CheckFault::NoMemory) => Err(NoMemory),
     }

@@ -1,6 +1,6 @@
 // The commands with their keys: what may stand on a command line.
 ghost use Rattle.std.specs.Prelude.{◌≡◌};
-ghost use Rattle.planner_top.specs.Commands.{command_named, required_keys, further_keys, key_text, value_kind, file_key, further_file, IsReadable};
+ghost use Rattle.planner_top.specs.Commands.{command_named, required_keys, further_keys, key_text, value_kind, file_key, further_file, written_file, IsReadable};
 
 use crate::stop::FileWord;
 use service_model::MAX_HORIZON;
@@ -67,7 +67,8 @@ pub fn further_keys(command: Command) -> &'static [Key]
     ensures { result.now ≡ further_keys command }
 {
     match command {
-        Command::Solve | Command::Audit | Command::Check => &[],
+        Command::Solve => &[Key::Cert],
+        Command::Audit | Command::Check => &[],
     }
 }
 
@@ -117,5 +118,15 @@ pub fn further_file(command: Command) -> Option<FileWord>
         Command::Solve => None,
         Command::Audit => Some(FileWord::Plan),
         Command::Check => Some(FileWord::Cert),
+    }
+}
+
+/// The file that a command writes where its key is given.
+pub fn written_file(command: Command) -> Option<FileWord>
+    ensures { result ≡ written_file command }
+{
+    match command {
+        Command::Solve => Some(FileWord::Cert),
+        Command::Audit | Command::Check => None,
     }
 }

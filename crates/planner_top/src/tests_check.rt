@@ -30,7 +30,7 @@ struct Checked<'a> {
 const CERTIFICATES: [Checked<'static>; 6] = [
     Checked {
         place: 0,
-        line: LINES[0],
+        line: "[\"gsm-cert\",1,5,2,1000]\n",
         status: Status::Done,
         text: "valid,optimal,11\n",
     },
@@ -66,12 +66,26 @@ const CERTIFICATES: [Checked<'static>; 6] = [
     },
 ];
 
-// Checks a certificate of the two stages, into the sink.
-fn check_over(alloc: Global, cert: &[u8], out: &mut SureSink) -> Result<Status, Fail> {
+// A shelf with the files of the two stages, or of one that has no plan.
+fn shelf_with(alloc: Global, stages: &str) -> Result<SureShelf, Fail> {
+    let mut shelf = SureShelf::new(alloc);
+    shelf.with_file("s", stages.as_bytes())?;
+    shelf.with_file("t", TABLES.as_bytes())?;
+    shelf.with_file("a", b"")?;
+    Ok(shelf)
+}
+
+// Runs a command with a certificate, into the sink.
+fn run_cert(
+    alloc: Global,
+    command: &str,
+    shelf: &mut SureShelf,
+    out: &mut SureSink,
+) -> Result<Status, Fail> {
     let words = words_of(
         alloc,
         &[
-            "check",
+            command,
             "stages=s",
             "tables=t",
             "arcs=a",
@@ -79,12 +93,15 @@ fn check_over(alloc: Global, cert: &[u8], out: &mut SureSink) -> Result<Status, 
             "cert=c",
         ],
     )?;
-    let mut shelf = SureShelf::new(alloc);
-    shelf.with_file("s", STAGES.as_bytes())?;
-    shelf.with_file("t", TABLES.as_bytes())?;
+    Ok(run_once(alloc, &words, shelf, out))
+}
+
+// Checks a certificate of the two stages, into the sink.
+fn check_over(alloc: Global, cert: &[u8], out: &mut SureSink) -> Result<Status, Fail> {
+    let mut shelf = shelf_with(alloc, STAGES)?;
     shelf.with_file("a", ARCS.as_bytes())?;
     shelf.with_file("c", cert)?;
-    Ok(run_once(alloc, &words, &mut shelf, out))
+    run_cert(alloc, "check", &mut shelf, out)
 }
 
 // The certificate with one line replaced.
@@ -107,5 +124,42 @@ fn a_certificate_of_two_stages_is_checked(rt: HostRuntime) -> Result<(), Fail> {
         let got = (status, out.written());
         assert_eq!(rt; got, (case.status, case.text.as_bytes()));
     }
+    Ok(())
+}
+
+#[test]
+fn a_certificate_that_is_written_is_accepted(rt: HostRuntime) -> Result<(), Fail> {
+    let alloc = rt.alloc();
+    let mut shelf = shelf_with(alloc, STAGES)?;
+    shelf.with_file("a", ARCS.as_bytes())?;
+    let mut out = SureSink::new(alloc);
+    let status = run_cert(alloc, "solve", &mut shelf, &mut out)?;
+    assert_eq!(rt; status, Status::Done);
+    assert!(rt; out.written().starts_with(b"optimal,11\n"));
+    let whole = cert_with(alloc, 0, LINES[0])?;
+    assert_eq!(rt;
+        shelf.bytes_of("c").ok_or("no certificate")?,
+        whole.as_slice()
+    );
+    assert_eq!(rt; shelf.bytes_of("s").ok_or("no stages")?, STAGES.as_bytes());
+    let mut checked = SureSink::new(alloc);
+    let status = run_cert(alloc, "check", &mut shelf, &mut checked)?;
+    let got = (status, checked.written());
+    assert_eq!(rt; got, (Status::Done, b"valid,optimal,11\n".as_slice()));
+    Ok(())
+}
+
+#[test]
+fn a_certificate_shows_that_no_plan_is_feasible(rt: HostRuntime) -> Result<(), Fail> {
+    let alloc = rt.alloc();
+    let stages = "stage,lead,supply,least,most,bound,unit\nA,5,,,0,a,1\n";
+    let mut shelf = shelf_with(alloc, stages)?;
+    let mut out = SureSink::new(alloc);
+    let status = run_cert(alloc, "solve", &mut shelf, &mut out)?;
+    assert_eq!(rt; status, Status::Infeasible);
+    let mut checked = SureSink::new(alloc);
+    let status = run_cert(alloc, "check", &mut shelf, &mut checked)?;
+    let got = (status, checked.written());
+    assert_eq!(rt; got, (Status::Done, b"valid,infeasible\n".as_slice()));
     Ok(())
 }
