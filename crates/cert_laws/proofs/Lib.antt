@@ -13,3 +13,5 @@ pub mod ItemFacts
 pub mod KeptFacts
 pub mod CheckFacts
 pub mod FaultFacts
+pub mod GrownFacts
+pub mod TablesKeptFacts

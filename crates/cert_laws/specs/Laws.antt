@@ -1,12 +1,15 @@
 -- The laws over certificates.
-use Rattle.std.specs.Prelude.{◌≡◌, ℕ, ◌<◌, ◌≤◌, List, [], ◌∷◌, ◌++◌, length, Option, Some, IsSomeAnd}
+use Rattle.std.specs.Prelude.{◌≡◌, ℕ, ◌+◌, ◌<◌, ◌≤◌, List, [], ◌∷◌, ◌++◌, length, map, Option, Some, None, IsSome, IsSomeAnd}
 use Rattle.service_model.specs.declared.cert_rules.TheConstants.{TABLE, CHILD, CHILD_ARC, LOCAL}
 use Rattle.service_model.specs.declared.plan.Plan.{Plan}
 use Rattle.service_model.specs.declared.range.Range.{Range}
 use Rattle.service_model.specs.declared.table.Table.{Table}
+use Rattle.service_model.specs.declared.cert.Node.{Node}
+use Rattle.service_model.specs.declared.cert.Split.{Split}
 use Rattle.service_model.specs.declared.cert.Verdict.{Verdict}
 use Rattle.service_model.specs.declared.cert.Cert.{Cert}
 use Rattle.service_model.specs.declared.cert.Item.{Item}
+use Rattle.service_model.specs.declared.cert.Item.TheVariants.{Head as HeadItem, Table as TableItem, Split as SplitItem}
 use Rattle.service_model.specs.Net.{Net}
 use Rattle.service_model.specs.Plans.{Feasible, cost_of}
 use Rattle.service_model.specs.Faults.{IsNetwork}
@@ -22,6 +25,7 @@ use Rattle.service_model.specs.Held.{Held, none_held, held_with, held_after, ran
 use Rattle.service_model.specs.CertRules.{TableRule, Keeps}
 use Rattle.service_model.specs.Certs.{AllKeep, IsAccepted, IsFault}
 use Rattle.cert_laws.specs.SoFar.{SoundSoFar}
+use Rattle.cert_laws.specs.Grown.{IsWhole, open_items, node_items, grown, TablesKeep}
 
 -- each feasible plan lies in the range of exactly one leaf
 abbrev pub LeafLaw : Type 0
@@ -95,3 +99,20 @@ FaultOneLaw = (n : Net) (items : List Item) (line rule line' rule' : ℕ) → Is
 -- accepted items have no fault
 abbrev pub NoFaultLaw : Type 0
 NoFaultLaw = (n : Net) (items : List Item) (line rule : ℕ) → IsAccepted n items → ¬ IsFault n items line rule
+
+-- the items of a certificate of one node
+abbrev pub FirstLaw : Type 0
+FirstLaw = (c : Cert) (x : Node) → c.nodes ≡ x ∷ [] → c.splits ≡ [] → x.seen ≡ length c.tables
+    → IsWhole c × (open_items c ≡ HeadItem c.head ∷ node_items c.tables x)
+
+-- with one split more come the split and its two nodes, behind what there was
+abbrev pub GrownLaw : Type 0
+GrownLaw = (c : Cert) (s : Split) (front back : List Table) (x y : Node) → IsWhole c → x.seen ≡ length c.tables + length front
+    → y.seen ≡ length c.tables + length front + length back
+    → IsWhole (grown c s front x back y)
+    × (open_items (grown c s front x back y) ≡ open_items c ++ (SplitItem s ∷ node_items front x ++ node_items back y))
+
+-- tables that keep their rules one over another keep all rules, and are what came behind
+abbrev pub TablesLaw : Type 0
+TablesLaw = (n : Net) (h : Held) (more : List Table) → IsSome h.head → h.verdict ≡ None → TablesKeep n h.tables more
+    → AllKeep n h (map TableItem more) × (held_after h (map TableItem more) ≡ record h { tables = h.tables ++ more })

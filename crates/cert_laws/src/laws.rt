@@ -1,5 +1,5 @@
 // The laws, each as the contract of a call that does nothing.
-ghost use Rattle.cert_laws.specs.Laws.{LeafLaw, LeastBoundLaw, FoundMoreLaw, RepairLaw, FoundOneLaw, TableMoreLaw, NodeStaysLaw, TrueLaw, EndingOneLaw, ItemMoreLaw, BoundLaw, CheckLaw, AcceptedLaw, CertLaw, FaultOneLaw, NoFaultLaw};
+ghost use Rattle.cert_laws.specs.Laws.{LeafLaw, LeastBoundLaw, FoundMoreLaw, RepairLaw, FoundOneLaw, TableMoreLaw, NodeStaysLaw, TrueLaw, EndingOneLaw, ItemMoreLaw, BoundLaw, CheckLaw, AcceptedLaw, CertLaw, FaultOneLaw, NoFaultLaw, FirstLaw, GrownLaw, TablesLaw};
 
 /// Each feasible plan lies in the range of exactly one leaf.
 pub fn leaf_law()
@@ -80,4 +80,19 @@ pub fn fault_one_law()
 /// Accepted items have no fault.
 pub fn no_fault_law()
     ensures { NoFaultLaw }
+{}
+
+/// The items of a certificate of one node.
+pub fn first_law()
+    ensures { FirstLaw }
+{}
+
+/// With one split more come the split and its two nodes, behind the items that there were.
+pub fn grown_law()
+    ensures { GrownLaw }
+{}
+
+/// Tables that keep their rules one over another keep all rules.
+pub fn tables_law()
+    ensures { TablesLaw }
 {}

@@ -1,0 +1,10 @@
+mod RuleFacts
+mod FloorFacts
+mod PoolFacts
+mod BackFacts
+mod RiseFacts
+mod EndFacts
+mod SizeFacts
+mod NodeFacts
+mod KeepFacts
+mod CertFacts

@@ -1,0 +1,4 @@
+pub mod Solutions
+pub mod Sizes
+pub mod Roots
+pub mod OneNode

@@ -1,0 +1,23 @@
+-- How long the lists of a certificate are.
+use Rattle.std.specs.Prelude.{◌+◌, ◌≤◌, length, All, IfSome}
+use Rattle.service_model.specs.declared.table.Table.{Table}
+use Rattle.service_model.specs.declared.cert.Node.{Node}
+use Rattle.service_model.specs.declared.cert.Cert.{Cert}
+use Rattle.service_model.specs.Net.{Net}
+use Rattle.service_model.specs.Plans.{HasTimes}
+
+-- the table has at most a child for each stage and a value for each time up to the horizon
+pub record IsShortTable (n : Net) (t : Table) : Type 0 where
+  pub children : length t.children ≤ length n.stages
+  pub values : length t.values ≤ n.horizon + 1
+
+-- the node has at most a root for each stage, and its plan two times for each
+pub record IsShortNode (n : Net) (x : Node) : Type 0 where
+  pub roots : length x.roots ≤ length n.stages
+  pub relaxed : IfSome x.relaxed (HasTimes n)
+
+-- the certificate's tables, nodes and plan are short
+pub record IsShortCert (n : Net) (c : Cert) : Type 0 where
+  pub tables : All (IsShortTable n) c.tables
+  pub nodes : All (IsShortNode n) c.nodes
+  pub plan : IfSome c.verdict.plan (HasTimes n)
