@@ -1,13 +1,10 @@
 -- The promise of the top call follows from what each status says.
-use Rattle.std.proofs.Common.{◌≡◌, ◌≤◌, ℕ, ◌⊎◌, List, Option, Some, None, refl, sym, ◌∙◌, subst, arith, inl, inr}
+use Rattle.std.proofs.Common.{◌≡◌, ◌⊎◌, Option, Some, None, refl, sym, ◌∙◌, subst, arith, inl, inr}
 use Rattle.gsm_outside.specs.Causes.{Rose}
-use Rattle.planner_top.specs.Problems.{IsUnreadOf}
 use Rattle.planner_top.specs.Asked.{cert_name}
-use Rattle.planner_top.specs.Texts.{fault_row, write_fault_row}
-use Rattle.planner_top.specs.Certificates.{KeepsOthers, put_cert, PutPart}
+use Rattle.planner_top.specs.Certificates.{KeepsOthers}
 use Rattle.planner_top.specs.Runs.{Run, IsLater, Answered, IsUnwritten, status_of, StatusCase}
 use Rattle.planner_top.specs.Headline.{Exactly, IsSure, Headline}
-use Rattle.planner_top.specs.declared.stop.FileWord.{FileWord}
 use Rattle.planner_top.specs.declared.answer.Ending.{Ending}
 use Rattle.planner_top.specs.declared.answer.Ending.TheVariants as ending
 use Rattle.planner_top.specs.declared.status.Status.{Status}

@@ -1,5 +1,5 @@
 -- A certificate is written line by line.
-use Rattle.std.proofs.Common.{◌≡◌, ℕ, suc, ◌+◌, ◌<◌, Bool, true, false, cond, List, [], ◌∷◌, ◌++◌, length, get_or, take, drop, Option, Some, None, refl, sym, ap, subst, ◌∙◌, inl, inr, arith, add-one, append_assoc}
+use Rattle.std.proofs.Common.{◌≡◌, ℕ, suc, ◌+◌, ◌<◌, Bool, true, false, cond, List, [], ◌∷◌, ◌++◌, length, get_or, take, drop, Option, Some, None, refl, sym, ap, ◌∙◌, inl, inr, append_assoc}
 use Rattle.std.specs.Prelude.{flat_map, unwrap_or}
 use Rattle.std.specs.Ordering.{nat_cmp, eq_by_cmp}
 use Rattle.std.specs.Cmp.Lexicographic.{slice_cmp}
@@ -8,8 +8,8 @@ use Rattle.std.proofs.lemmas.Cmp.{nat_list_cmp_total, eq_by_cmp_equiv}
 use Rattle.std.proofs.lemmas.Grind.{flat_map-append}
 use Rattle.std.proofs.lemmas.List.{append-nil, take-append-drop, take_more}
 use Rattle.std.proofs.Math.Seq.{drop-cons}
-use Rattle.gsm_outside.specs.Held.{Held, file_bytes, with_bytes, with_piece, put_in, add_to, AddedPart, MaybeEmptied}
-use Rattle.planner_top.specs.Certificates.{put_cert, PutFront, PutPart, KeepsOthers}
+use Rattle.gsm_outside.specs.Held.{Held, file_bytes, with_bytes, put_in, add_to, AddedPart, MaybeEmptied}
+use Rattle.planner_top.specs.Certificates.{put_cert, PutPart, KeepsOthers}
 
 ties : (name : List ℕ) → eq_by_cmp (slice_cmp nat_cmp) name name ≡ true
 ties name = (eq_by_cmp_equiv nat_list_cmp_total).refl name

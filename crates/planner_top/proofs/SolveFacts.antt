@@ -1,12 +1,12 @@
 -- What a verdict that solves a network says of it.
-use Rattle.std.proofs.Common.{◌≡◌, ℕ, Option, Some, None, refl, sym, ap, subst, ◌∙◌}
+use Rattle.std.proofs.Common.{◌≡◌, ℕ, Option, Some, None, refl, ap, subst, ◌∙◌}
 use Rattle.service_model.specs.declared.limits.TheConstants.{INF}
 use Rattle.service_model.specs.declared.plan.Plan.{Plan}
 use Rattle.service_model.specs.declared.cert.Outcome.{Outcome}
 use Rattle.service_model.specs.declared.cert.Outcome.TheVariants.{Optimal, Infeasible, Spent}
 use Rattle.service_model.specs.declared.cert.Verdict.{Verdict}
 use Rattle.service_model.specs.Net.{Net}
-use Rattle.service_model.specs.Plans.{Feasible, Least, Empty, cost_of}
+use Rattle.service_model.specs.Plans.{Least, Empty, cost_of}
 use Rattle.range_branch.specs.Solutions.{SolvesAs, Solves}
 use Rattle.planner_top.specs.Certificates.{optimal_with, infeasible}
 

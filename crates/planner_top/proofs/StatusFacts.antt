@@ -1,7 +1,6 @@
 -- What a status says of a run, by what each of its calls left.
-use Rattle.std.proofs.Common.{◌≡◌, ◌≤◌, ℕ, ◌+◌, ◌⊎◌, List, [], ◌∷◌, ◌++◌, length, Option, Some, None, option_map, refl, sym, ap, ◌∙◌, subst, arith, inl, inr}
+use Rattle.std.proofs.Common.{◌≡◌, ◌≤◌, ℕ, ◌+◌, List, [], ◌∷◌, ◌++◌, length, Option, option_map, refl, sym, ap, ◌∙◌, subst, arith, inl, inr}
 use Rattle.std.proofs.Math.Seq.{take-length}
-use Rattle.gsm_outside.specs.Causes.{Rose}
 use Rattle.planner_top.specs.declared.filled.TheConstants.{MOST_FILLED}
 use Rattle.planner_top.specs.declared.stop.FileWord.{FileWord}
 use Rattle.planner_top.specs.declared.answer.Ending.{Ending}
@@ -11,7 +10,7 @@ use Rattle.planner_top.specs.declared.status.Status.TheVariants as status
 use Rattle.planner_top.specs.Asked.{cert_name}
 use Rattle.planner_top.specs.Texts.{fault_row, write_fault_row}
 use Rattle.planner_top.specs.Answers.{IsAnswer}
-use Rattle.planner_top.specs.Runs.{Run, Follows, PartFollows, IsLater, Answered, IsUnsolved, IsFound, IsGiven, IsBegun, IsUnwritten, PrintsFront, IsStill, IsSilent, status_of, StatusCase, FaultCase, Given, given_of, PutsFront, TellsFront, PutsPart, PutsAll, GivenCase}
+use Rattle.planner_top.specs.Runs.{Run, Follows, PartFollows, IsLater, Answered, IsUnsolved, IsFound, IsUnwritten, PrintsFront, status_of, StatusCase, FaultCase, Given, given_of, PutsFront, TellsFront, PutsAll, GivenCase}
 
 -- the answer that a run gives
 abbrev pub given_in : Run → Ending → List (List (List ℕ)) → Option (List ℕ) → Given

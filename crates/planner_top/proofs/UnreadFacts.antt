@@ -1,9 +1,8 @@
 -- Where the further file of a request was not read, the three before it were.
-use Rattle.std.proofs.Common.{◌≡◌, ℕ, ◌<◌, ◌≤◌, Bool, true, false, List, [], ◌∷◌, length, Option, Some, None, Ok, Err, refl, sym, subst, ap, ◌∙◌, arith, nat_lt, ltb}
+use Rattle.std.proofs.Common.{◌≡◌, ℕ, ◌≤◌, false, List, length, Option, Some, None, Ok, Err, refl, subst, ◌∙◌, arith, ltb}
 use Rattle.std.specs.Option.{IfSome}
 use Rattle.std.proofs.lemmas.Bool.Decides.{nat_tests}
 use Rattle.gsm_outside.specs.Held.{Held, file_bytes}
-use Rattle.gsm_outside.specs.Causes.{Rose}
 use Rattle.planner_top.specs.declared.files.TheConstants.{FILE_LIMIT}
 use Rattle.planner_top.specs.declared.stop.FileWord.{FileWord}
 use Rattle.planner_top.specs.declared.stop.FileWord.TheVariants as file
@@ -13,7 +12,7 @@ use Rattle.planner_top.specs.declared.stop.Unsolved.TheVariants as unsolved
 use Rattle.planner_top.specs.Asked.{Asked}
 use Rattle.planner_top.specs.Commands.{further_file}
 use Rattle.planner_top.specs.Reading.{WhereTold, ReadCase}
-use Rattle.planner_top.specs.Contents.{limit_of, long_if, further_long, too_long_of, longer_before, IsFileOf, IsUnread, FurtherCase, FilesCase}
+use Rattle.planner_top.specs.Contents.{limit_of, long_if, further_long, too_long_of, longer_before, IsFileOf, FurtherCase, FilesCase}
 
 small : (limit n : ℕ) → n ≤ limit → ltb limit n ≡ false
 small limit n le = grind (arith, nat_tests)

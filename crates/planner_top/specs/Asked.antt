@@ -5,7 +5,6 @@ use Rattle.gsm_nums.specs.Whole.{whole_of, without_spaces}
 use Rattle.gsm_nums.specs.declared.whole.NumFault.{NumFault}
 use Rattle.planner_top.specs.declared.command.Command.{Command}
 use Rattle.planner_top.specs.declared.command.Command.TheVariants.{Solve}
-use Rattle.planner_top.specs.declared.command.Key.{Key}
 use Rattle.planner_top.specs.declared.command.Key.TheVariants.{Stages, Tables, Arcs, Horizon}
 use Rattle.planner_top.specs.declared.word_fault.WordFault.{WordFault}
 use Rattle.planner_top.specs.declared.stop.FileWord.{FileWord}

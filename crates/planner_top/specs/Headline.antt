@@ -17,7 +17,6 @@ use Rattle.planner_top.specs.declared.task.Task.{Task}
 use Rattle.planner_top.specs.declared.task.Task.TheVariants as task
 use Rattle.planner_top.specs.declared.word_fault.WordFault.{WordFault}
 use Rattle.planner_top.specs.declared.stop.FileWord.{FileWord}
-use Rattle.planner_top.specs.declared.stop.Stop.{Stop}
 use Rattle.planner_top.specs.declared.stop.Stop.TheVariants as stop
 use Rattle.planner_top.specs.declared.answer.Ending.{Ending}
 use Rattle.planner_top.specs.declared.answer.Ending.TheVariants as ending

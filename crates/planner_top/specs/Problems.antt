@@ -6,7 +6,7 @@ use Rattle.planner_top.specs.Asked.{Asked, asked_of}
 use Rattle.planner_top.specs.Contents.{IsUnread}
 use Rattle.planner_top.specs.Tasks.{IsReady}
 use Rattle.planner_top.specs.Certificates.{bytes_in}
-use Rattle.planner_top.specs.Answers.{IsAskedProblem, IsProblem, MayEnd, IsAnswer}
+use Rattle.planner_top.specs.Answers.{IsAskedProblem, IsProblem, IsAnswer}
 use Rattle.planner_top.specs.declared.filled.TheConstants.{MOST_FILLED}
 use Rattle.planner_top.specs.declared.command.Command.{Command}
 use Rattle.planner_top.specs.declared.command.Command.TheVariants as command

@@ -28,7 +28,6 @@ use Rattle.planner_top.specs.declared.stop.Stop.{Stop}
 use Rattle.planner_top.specs.declared.stop.Stop.TheVariants as stop
 use Rattle.planner_top.specs.declared.stop.Unsolved.{Unsolved}
 use Rattle.planner_top.specs.declared.stop.Unsolved.TheVariants as unsolved
-use Rattle.planner_top.specs.Asked.{Asked}
 
 -- the rows of the three files of a network
 abbrev pub files_in : Contents → Files

@@ -1,4 +1,4 @@
-use Rattle.std.proofs.Common.{◌≡◌, ◌∙◌, List, ℕ, [], ◌∷◌, arith}
+use Rattle.std.proofs.Common.{◌≡◌, ◌∙◌, [], ◌∷◌}
 use Rattle.planner_top.specs.Texts.{lines_of, write_fault_row}
 use Rattle.planner_top.proofs.StatusFacts.{all_is_front}
 use Rattle.planner_top.proofs.top.print_unwritten.Goals as goal
