@@ -8,3 +8,4 @@ pub mod BackFacts
 pub mod OrderFacts
 pub mod StreamFacts
 pub mod WholeFacts
+pub mod ShortFacts

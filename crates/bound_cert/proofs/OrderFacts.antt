@@ -1,11 +1,10 @@
 -- Items in order, and the places that count them.
-use Rattle.std.proofs.Common.{◌≡◌, ℕ, ◌+◌, ◌*◌, ◌==◌, nat_lt, nat_le, not, length, List, [], ◌∷◌, ◌++◌, Bool, true, false, if◌then◌else◌, Option, Some, None, is_none, is_some, Result, Ok, Err, IfOk, refl, sym, ap, ◌∙◌, subst, arith, length-append, ne_eqb}
+use Rattle.std.proofs.Common.{◌≡◌, ℕ, ◌+◌, ◌==◌, nat_lt, not, length, List, [], ◌∷◌, ◌++◌, Bool, true, false, if◌then◌else◌, Option, Some, None, is_some, Result, Ok, Err, IfOk, refl, sym, ap, ◌∙◌, subst, arith, length-append, ne_eqb}
 use Rattle.std.specs.Prelude.{⊤}
 use Rattle.service_model.specs.declared.cert.Item.{Item}
 use Rattle.service_model.specs.declared.cert.Item.TheVariants.{Head as HeadItem, Table as TableItem, Node as NodeItem, Split as SplitItem, End as EndItem}
 use Rattle.service_model.specs.declared.cert_rules.TheConstants.{LONG_LINE, HEAD, VERSION, AFTER_END, PLACE, NO_END}
 use Rattle.service_model.specs.Items.{is_head}
-use Rattle.service_model.specs.CertNumbers.{InRange}
 use Rattle.service_model.specs.Held.{Held, held_with, held_after, is_misplaced}
 use Rattle.bound_cert.specs.declared.limits.TheConstants.{MAX_LINE, FORMAT}
 use Rattle.bound_cert.specs.declared.line.Refusal.{Refusal}

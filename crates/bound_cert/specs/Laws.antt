@@ -1,6 +1,6 @@
 -- Laws of certificate lines: what is written reads back, what is read keeps the rules on lines, and it does not
 -- matter how the bytes are cut.
-use Rattle.std.specs.Prelude.{ℕ, ◌≡◌, ◌≤◌, List, [], ◌++◌, length, All, IsSome, Ok, flat_map}
+use Rattle.std.specs.Prelude.{ℕ, ◌≡◌, ◌≤◌, List, ◌++◌, length, All, IsSome, Ok, flat_map}
 use Rattle.service_model.specs.declared.cert.Item.{Item}
 use Rattle.service_model.specs.CertNumbers.{InRange}
 use Rattle.service_model.specs.Held.{Held, none_held, held_after}
@@ -9,6 +9,7 @@ use Rattle.bound_cert.specs.Lines.{text_of, line_of}
 use Rattle.bound_cert.specs.Reading.{line_from}
 use Rattle.bound_cert.specs.Stream.{Place, start, after_items, reads, reads_end, then_reads}
 use Rattle.bound_cert.specs.Order.{HasSeen, line_with, AllInOrder, Counts}
+use Rattle.bound_cert.specs.Sizes.{HasFewNumbers}
 
 -- the line of an item whose numbers are in their ranges reads back as the item
 abbrev pub ReadsBack : Type 0
@@ -17,6 +18,10 @@ ReadsBack = (seen : ℕ) (x : Item) → InRange x → HasSeen seen x → line_fr
 -- the item's line is not too long
 abbrev pub IsShort : Item → Type 0
 IsShort x = length (text_of x) ≤ MAX_LINE
+
+-- the line of an item of few numbers, in their ranges, is not too long
+abbrev pub ShortLaw : Type 0
+ShortLaw = (x : Item) → InRange x → HasFewNumbers x → IsShort x
 
 -- the lines of items in order read back as the items
 abbrev pub LinesBack : Type 0

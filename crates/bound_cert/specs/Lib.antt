@@ -7,4 +7,5 @@ pub mod Steps
 pub mod Feeding
 pub mod Reader
 pub mod Order
+pub mod Sizes
 pub mod Laws

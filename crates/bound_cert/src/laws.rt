@@ -1,9 +1,14 @@
 // Laws of certificate lines, each the contract of a function that does nothing.
-ghost use Rattle.bound_cert.specs.Laws.{ReadsBack, LinesBack, WholeBack, ReadInOrder, EndInOrder, AnyCut};
+ghost use Rattle.bound_cert.specs.Laws.{ReadsBack, ShortLaw, LinesBack, WholeBack, ReadInOrder, EndInOrder, AnyCut};
 
 /// The line of an item reads back as the item.
 pub fn reads_back()
     ensures { ReadsBack }
+{}
+
+/// The line of an item of few numbers is not too long.
+pub fn short_law()
+    ensures { ShortLaw }
 {}
 
 /// The lines of items in order read back as the items.

@@ -14,7 +14,9 @@ mod values;
 mod write;
 
 pub use fault::{CertFault, FeedStop};
-pub use laws::{any_cut, end_in_order, lines_back, read_in_order, reads_back, whole_back};
+pub use laws::{
+    any_cut, end_in_order, lines_back, read_in_order, reads_back, short_law, whole_back,
+};
 pub use limits::{FORMAT, MAX_LINE};
 pub use reader::CertReader;
 pub use write::line_of;
