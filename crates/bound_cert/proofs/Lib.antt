@@ -9,3 +9,4 @@ pub mod OrderFacts
 pub mod StreamFacts
 pub mod WholeFacts
 pub mod ShortFacts
+mod ItemsFacts

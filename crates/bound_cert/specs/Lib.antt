@@ -8,4 +8,5 @@ pub mod Feeding
 pub mod Reader
 pub mod Order
 pub mod Sizes
+pub mod Arranged
 pub mod Laws

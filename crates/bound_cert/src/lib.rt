@@ -4,16 +4,19 @@
 mod fault;
 mod feed;
 mod fields;
+mod items;
 mod laws;
 mod limits;
 mod line;
 mod read;
 mod reader;
+mod rest;
 mod stream;
 mod values;
 mod write;
 
 pub use fault::{CertFault, FeedStop};
+pub use items::items_of;
 pub use laws::{
     any_cut, end_in_order, lines_back, read_in_order, reads_back, short_law, whole_back,
 };

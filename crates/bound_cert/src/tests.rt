@@ -1,6 +1,6 @@
 ghost use Rattle.std.specs.Prelude.{◌<◌};
 
-use crate::{CertFault, CertReader, FeedStop, line_of};
+use crate::{CertFault, CertReader, FeedStop, items_of, line_of};
 use service_model::cert_rules::{
     AFTER_END, HEAD, LONG_LINE, NO_END, NOT_JSON, PLACE, SHAPE, VERSION,
 };
@@ -160,6 +160,21 @@ fn a_node_has_seen_the_tables_before_it(rt: HostRuntime) -> Result<(), Fail> {
         }
     }
     assert_eq!(rt; seen.as_slice(), [4, 6, 10].as_slice());
+    Ok(())
+}
+
+#[test]
+fn a_certificate_has_the_items_that_were_read(rt: HostRuntime) -> Result<(), Fail> {
+    let alloc = rt.alloc();
+    let bytes = joined(alloc, &DIAMOND)?;
+    let mut collector = Collector::new(alloc);
+    assert_eq!(rt; fed(alloc, &bytes, 4096, &mut collector, &mut ()), Ok(()));
+    let cert = collector.cert().ok_or("no certificate")?;
+    let mut written = Vec::new(alloc);
+    for item in items_of(alloc, cert)?.as_slice() {
+        written.extend_from_slice(line_of(alloc, item)?.as_slice())?;
+    }
+    assert_eq!(rt; written.as_slice(), bytes.as_slice());
     Ok(())
 }
 
