@@ -13,3 +13,4 @@ pub mod ItemFacts
 pub mod KeptFacts
 pub mod CheckFacts
 pub mod FaultFacts
+pub mod EarnedFacts
