@@ -9,4 +9,5 @@ pub mod OrderFacts
 pub mod StreamFacts
 pub mod WholeFacts
 pub mod ShortFacts
+pub mod SeenFacts
 mod ItemsFacts

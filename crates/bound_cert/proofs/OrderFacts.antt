@@ -5,14 +5,14 @@ use Rattle.service_model.specs.declared.cert.Item.{Item}
 use Rattle.service_model.specs.declared.cert.Item.TheVariants.{Head as HeadItem, Table as TableItem, Node as NodeItem, Split as SplitItem, End as EndItem}
 use Rattle.service_model.specs.declared.cert_rules.TheConstants.{LONG_LINE, HEAD, VERSION, AFTER_END, PLACE, NO_END}
 use Rattle.service_model.specs.Items.{is_head}
-use Rattle.service_model.specs.Held.{Held, held_with, held_after, is_misplaced}
+use Rattle.service_model.specs.Held.{Held, none_held, held_with, held_after, is_misplaced}
 use Rattle.bound_cert.specs.declared.limits.TheConstants.{MAX_LINE, FORMAT}
 use Rattle.bound_cert.specs.declared.line.Refusal.{Refusal}
 use Rattle.bound_cert.specs.declared.line.Refusal.TheVariants.{NotJson, Shape}
 use Rattle.bound_cert.specs.declared.line.Line.{Line}
 use Rattle.bound_cert.specs.declared.fault.CertFault.{CertFault}
 use Rattle.bound_cert.specs.Reading.{line_from}
-use Rattle.bound_cert.specs.Stream.{Place, Step, Reads, is_out_of_turn, broken_rule, after_item, fault_at, with_rule, with_line, line_done, read_byte, go_on, reads, closed, has_begun, reads_end}
+use Rattle.bound_cert.specs.Stream.{Place, Step, Reads, start, then_reads, is_out_of_turn, broken_rule, after_item, fault_at, with_rule, with_line, line_done, read_byte, go_on, reads, closed, has_begun, reads_end}
 use Rattle.bound_cert.specs.Order.{HasSeen, line_with, IsInOrder, AllInOrder, Counts}
 use Rattle.bound_cert.specs.Laws.{ReadInOrder, EndInOrder}
 use Rattle.bound_cert.proofs.RangeFacts.{IsRead, line_ok}
@@ -152,7 +152,7 @@ append_in_order : (h : Held) (front back : List Item) → AllInOrder h front →
 append_in_order h [] back first later = later
 append_in_order h (x ∷ front) back (here, first) later = (here, append_in_order (held_with h x) front back first later)
 
-held_after-append : (h : Held) (front back : List Item) → held_after h (front ++ back) ≡ held_after (held_after h front) back
+pub held_after-append : (h : Held) (front back : List Item) → held_after h (front ++ back) ≡ held_after (held_after h front) back
 held_after-append h [] back = refl
 held_after-append h (x ∷ front) back = held_after-append (held_with h x) front back
 
@@ -199,3 +199,15 @@ ends_in_order h p false counts = closed_in_order h p counts
 pub end_in_order : EndInOrder
 unfolding reads_end
 end_in_order h p counts = (ends_in_order h p (has_begun p) counts).0
+
+pub starts : Counts none_held start
+starts = record { first = refl; tables = refl; nodes = refl; splits = refl; ended = refl }
+
+then_in_order : (h : Held) (r : Reads) (more : Place → Reads) → ReadsInOrder h r → ((g : Held) (q : Place) → Counts g q → AllInOrder g (more q).0)
+    → AllInOrder h (then_reads r more).0
+then_in_order h (items, Ok p) more (first, counts) next = append_in_order h items (more p).0 first (next (held_after h items) p (counts p refl))
+then_in_order h (items, Err fault) more (first, counts) next = first
+
+-- the items of bytes up to their end are in order
+pub whole_in_order : (bytes : List ℕ) → AllInOrder none_held (then_reads (reads bytes start) reads_end).0
+whole_in_order bytes = then_in_order none_held (reads bytes start) reads_end (read_in_order bytes none_held start starts) end_in_order

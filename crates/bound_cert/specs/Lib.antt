@@ -8,5 +8,6 @@ pub mod Feeding
 pub mod Reader
 pub mod Order
 pub mod Sizes
+pub mod Seen
 pub mod Arranged
 pub mod Laws
