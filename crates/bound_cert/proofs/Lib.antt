@@ -10,4 +10,5 @@ pub mod StreamFacts
 pub mod WholeFacts
 pub mod ShortFacts
 pub mod SeenFacts
+mod BrokenFacts
 mod ItemsFacts

@@ -18,24 +18,24 @@ use Rattle.bound_cert.specs.Laws.{ReadInOrder, EndInOrder}
 use Rattle.bound_cert.proofs.RangeFacts.{IsRead, line_ok}
 
 -- no item is out of turn exactly where it is a head and none came, or none and one came
-turn_by : (first head : Bool) → head ≡ first → (if first then not head else head) ≡ false
+pub turn_by : (first head : Bool) → head ≡ first → (if first then not head else head) ≡ false
 turn_by true true e = refl
 turn_by true false e = cc
 turn_by false true e = cc
 turn_by false false e = refl
 
-turn_from : (first head : Bool) → (if first then not head else head) ≡ false → head ≡ first
+pub turn_from : (first head : Bool) → (if first then not head else head) ≡ false → head ≡ first
 turn_from true true e = refl
 turn_from true false e = cc
 turn_from false true e = cc
 turn_from false false e = refl
 
-none_by : {A : Type 0} (o : Option A) → is_some o ≡ false → o ≡ None
+pub none_by : {A : Type 0} (o : Option A) → is_some o ≡ false → o ≡ None
 none_by None e = refl
 none_by (Some x) e = cc
 
 -- the four tests of a whole line, one after another
-abbrev tests : Bool → Bool → Bool → Bool → Option ℕ
+abbrev pub tests : Bool → Bool → Bool → Bool → Option ℕ
 tests turn version ended placed =
     if turn then Some HEAD else (if version then Some VERSION else (if ended then Some AFTER_END else (if placed then Some PLACE else None)))
 
@@ -111,7 +111,7 @@ counts_more h p (EndItem v) counts o = record {
 }
 
 -- the items of a step are in order, and the place behind them counts them
-abbrev StepInOrder : Held → Step → Type 0
+abbrev pub StepInOrder : Held → Step → Type 0
 StepInOrder h (Ok x) = AllInOrder h x.0 × Counts (held_after h x.0) x.1
 StepInOrder h (Err fault) = ⊤
 
@@ -144,7 +144,7 @@ byte_by : (h : Held) (p : Place) (b : ℕ) (feed : Bool) → Counts h p
 byte_by h p b true counts = done_in_order h p counts
 byte_by h p b false counts = begun_in_order h p b (nat_lt (length p.begun) MAX_LINE) counts
 
-byte_in_order : (h : Held) (p : Place) (b : ℕ) → Counts h p → StepInOrder h (read_byte p b)
+pub byte_in_order : (h : Held) (p : Place) (b : ℕ) → Counts h p → StepInOrder h (read_byte p b)
 unfolding read_byte
 byte_in_order h p b counts = byte_by h p b (b == 10) counts
 

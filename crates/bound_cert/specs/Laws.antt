@@ -1,6 +1,6 @@
 -- Laws of certificate lines: what is written reads back, what is read keeps the rules on lines, and it does not
 -- matter how the bytes are cut.
-use Rattle.std.specs.Prelude.{ℕ, ◌≡◌, ◌≤◌, List, ◌++◌, length, All, IsSome, Ok, flat_map}
+use Rattle.std.specs.Prelude.{ℕ, ◌≡◌, ◌≤◌, List, ◌++◌, length, All, IsSome, Ok, Err, flat_map}
 use Rattle.service_model.specs.declared.cert.Cert.{Cert}
 use Rattle.service_model.specs.declared.cert.Item.{Item}
 use Rattle.service_model.specs.Net.{Net}
@@ -14,7 +14,9 @@ use Rattle.bound_cert.specs.Reading.{line_from}
 use Rattle.bound_cert.specs.Stream.{Place, start, after_items, reads, reads_end, then_reads}
 use Rattle.bound_cert.specs.Order.{HasSeen, line_with, AllInOrder, Counts}
 use Rattle.bound_cert.specs.Sizes.{HasFewNumbers}
+use Rattle.bound_cert.specs.declared.fault.CertFault.{CertFault}
 use Rattle.bound_cert.specs.Seen.{HaveSeen, SeesInTurn}
+use Rattle.bound_cert.specs.Broken.{IsOfItems, BreaksRule}
 
 -- the line of an item whose numbers are in their ranges reads back as the item
 abbrev pub ReadsBack : Type 0
@@ -68,3 +70,8 @@ SeenLaw = (bytes : List ℕ) → HaveSeen (reads bytes start).0 × HaveSeen (the
 -- what bytes give does not depend on how they are cut
 abbrev pub AnyCut : Type 0
 AnyCut = (front back : List ℕ) (p : Place) → reads (front ++ back) p ≡ then_reads (reads front p) (reads back)
+
+-- where a line breaks one of the rules that lines and items both have, its item breaks it, and none below
+abbrev pub RulesAgree : Type 0
+RulesAgree = (n : Net) (bytes : List ℕ) (fault : CertFault) → (reads bytes start).1 ≡ Err fault → IsOfItems fault.rule
+    → BreaksRule n none_held start bytes (reads bytes start).0 fault

@@ -9,5 +9,6 @@ pub mod Reader
 pub mod Order
 pub mod Sizes
 pub mod Seen
+pub mod Broken
 pub mod Arranged
 pub mod Laws

@@ -1,5 +1,5 @@
 // Laws of certificate lines, each the contract of a function that does nothing.
-ghost use Rattle.bound_cert.specs.Laws.{ReadsBack, ShortLaw, LinesBack, WholeBack, ItemsBack, KeptInOrder, CertSeen, ReadInOrder, SeenLaw, EndInOrder, AnyCut};
+ghost use Rattle.bound_cert.specs.Laws.{ReadsBack, ShortLaw, LinesBack, WholeBack, ItemsBack, KeptInOrder, CertSeen, ReadInOrder, SeenLaw, EndInOrder, AnyCut, RulesAgree};
 
 /// The line of an item reads back as the item.
 pub fn reads_back()
@@ -55,4 +55,9 @@ pub fn end_in_order()
 /// What bytes give does not depend on how they are cut.
 pub fn any_cut()
     ensures { AnyCut }
+{}
+
+/// Where a line breaks one of the rules that lines and items both have, its item breaks it, and none below.
+pub fn rules_agree()
+    ensures { RulesAgree }
 {}

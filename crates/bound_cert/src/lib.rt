@@ -19,7 +19,7 @@ pub use fault::{CertFault, FeedStop};
 pub use items::items_of;
 pub use laws::{
     any_cut, cert_seen, end_in_order, items_back, kept_in_order, lines_back, read_in_order,
-    reads_back, seen_law, short_law, whole_back,
+    reads_back, rules_agree, seen_law, short_law, whole_back,
 };
 pub use limits::{FORMAT, MAX_LINE};
 pub use reader::CertReader;
