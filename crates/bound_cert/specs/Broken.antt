@@ -11,7 +11,7 @@ use Rattle.bound_cert.specs.Lines.{line_feed}
 use Rattle.bound_cert.specs.Reading.{line_from}
 use Rattle.bound_cert.specs.Stream.{Place, reads}
 
--- a rule on whole lines that stands among the rules on items too, and that a line that reads can break
+-- the rules on lines that are rules on items too, and that a line that reads as an item can break
 abbrev pub IsOfItems : ℕ → Type 0
 IsOfItems rule = (rule ≡ HEAD) ⊎ ((rule ≡ AFTER_END) ⊎ (rule ≡ PLACE))
 

@@ -40,7 +40,7 @@ abbrev pub WholeBack : Type 0
 WholeBack = (items : List Item) → AllInOrder none_held items → All IsShort items → IsSome (held_after none_held items).verdict
     → then_reads (reads (flat_map line_of items) start) reads_end ≡ (items, Ok (after_items start items))
 
--- so do the items of a certificate
+-- the lines of a certificate's items read back as these items, and the end of the bytes gives no fault
 abbrev pub ItemsBack : Type 0
 ItemsBack = (c : Cert) → AllInOrder none_held (items_of c) → All IsShort (items_of c)
     → then_reads (reads (flat_map line_of (items_of c)) start) reads_end ≡ (items_of c, Ok (after_items start (items_of c)))
@@ -49,7 +49,7 @@ ItemsBack = (c : Cert) → AllInOrder none_held (items_of c) → All IsShort (it
 abbrev pub KeptInOrder : Type 0
 KeptInOrder = (n : Net) (items : List Item) → AllKeep n none_held items → HaveSeen items → AllInOrder none_held items
 
--- each node among the items of a certificate has seen just the tables before it, where the numbers are right
+-- each node among a certificate's items has seen just the tables before it, where the numbers of tables do not fall and are no more than there are
 abbrev pub CertSeen : Type 0
 CertSeen = (c : Cert) → SeesInTurn c → HaveSeen (items_of c)
 
@@ -71,7 +71,7 @@ SeenLaw = (bytes : List ℕ) → HaveSeen (reads bytes start).0 × HaveSeen (the
 abbrev pub AnyCut : Type 0
 AnyCut = (front back : List ℕ) (p : Place) → reads (front ++ back) p ≡ then_reads (reads front p) (reads back)
 
--- where a line breaks one of the rules that lines and items both have, its item breaks it, and none below
+-- where a line breaks HEAD, AFTER_END or PLACE, its item breaks that rule on items, behind the items read, and none below
 abbrev pub RulesAgree : Type 0
 RulesAgree = (n : Net) (bytes : List ℕ) (fault : CertFault) → (reads bytes start).1 ≡ Err fault → IsOfItems fault.rule
     → BreaksRule n none_held start bytes (reads bytes start).0 fault

@@ -6,11 +6,11 @@ use Rattle.service_model.specs.declared.cert.Node.{Node}
 use Rattle.service_model.specs.declared.cert.Item.{Item}
 use Rattle.service_model.specs.declared.cert.Item.TheVariants.{Head as HeadItem, Table as TableItem, Node as NodeItem, Split as SplitItem, End as EndItem}
 
--- the most stages that a line has room for, twice those of a network
+-- so many stages: twice the most of a network
 abbrev pub few_stages : ℕ
 few_stages = 2000
 
--- the most values of a table that a line has room for, one for each time up to a horizon of 1,001
+-- so many values of a table: one for each time of a horizon of 1,000, and one more
 abbrev pub few_values : ℕ
 few_values = 1002
 
