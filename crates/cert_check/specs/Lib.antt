@@ -1,0 +1,5 @@
+pub mod Faults
+pub mod Checking
+pub mod Bytes
+pub mod Laws
+pub mod Written

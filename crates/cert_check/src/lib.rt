@@ -1,2 +1,12 @@
 //! The checker of certificates, which shares nothing with the solver.
 #![tactic(auto)]
+
+mod bytes;
+mod check_fault;
+mod laws;
+mod not_yet;
+
+pub use bytes::check_bytes;
+pub use check_fault::CheckFault;
+pub use laws::{not_both_law, refusal_one_law, verdict_one_law, written_law};
+pub use not_yet::SPLIT_NOT_YET;
