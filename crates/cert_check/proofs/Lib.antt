@@ -1,0 +1,4 @@
+mod PlaceFacts
+mod NodeFacts
+mod KeepFacts
+mod TakeFacts

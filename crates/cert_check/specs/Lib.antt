@@ -1,5 +1,7 @@
 pub mod Faults
+pub mod Frames
+pub mod Keeping
 pub mod Checking
 pub mod Bytes
-pub mod Laws
 pub mod Written
+pub mod Laws
