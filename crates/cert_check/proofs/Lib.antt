@@ -2,3 +2,6 @@ mod PlaceFacts
 mod NodeFacts
 mod KeepFacts
 mod TakeFacts
+mod WholeFacts
+mod EndedFacts
+mod AnswerFacts
