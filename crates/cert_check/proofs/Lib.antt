@@ -5,3 +5,6 @@ mod TakeFacts
 mod WholeFacts
 mod EndedFacts
 mod AnswerFacts
+mod PassFacts
+pub mod RefusalFacts
+pub mod WrittenFacts
