@@ -13,15 +13,15 @@ ghost use Rattle.cert_check.specs.Keeping.{IsKept, FoundIn};
 
 use crate::came::Came;
 use crate::not_yet::SPLIT_NOT_YET;
-use crate::pending::{
-    Scratch, end_fault, found_of, keep_better, most_floor, node_bound, node_fault, table_fault,
-};
+use crate::pending::{node_bound, node_fault};
+use end_rules::{end_fault, found_of, keep_better};
 use service_model::cert_rules::NETWORK;
 use service_model::{
     Head, Item, List, Network, NoMemory, Node, Plan, Range, Table, Verdict, topological_order,
 };
 use std::alloc::Global;
 use std::marker::Model;
+use table_rules::{Scratch, most_floor, table_fault};
 
 /// A network, and what the rules on items are decided by.
 #[derive(Drop)]
@@ -115,7 +115,7 @@ impl<'a> Rules<'a> {
         ensures { IsFirstOf (EndRule self.now came.now verdict.now) result }
     {
         let first = came.first_node();
-        let least = node_bound(self.network, came.tables(), first.roots.as_slice());
+        let least = node_bound(came.tables(), first.roots.as_slice());
         end_fault(
             self.network,
             came.budget(),

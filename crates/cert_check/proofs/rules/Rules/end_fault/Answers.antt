@@ -38,7 +38,7 @@ returns c =
     let bound : c.node_bound-least.result ≡ bound_of h.tables (node_at h.nodes 0).roots = cc in
     let found = subst (λ (m : Net). Found m (relaxed_of h) c.args.found.now) (sym c.self.view_is) c.requires.kept.best in
     subst (λ (m : Net). IsFirstOf (EndRule m h c.args.verdict.now) c.end_fault.result) c.self.view_is
-    (c.end_fault.ensures h found (least_bound n h c.node_bound-least.result c.requires.kept.no_split some bound) (sym c.node_count.ensures) (sym c.budget.ensures))
+    (c.end_fault.ensures.first h found (least_bound n h c.node_bound-least.result c.requires.kept.no_split some bound) (sym c.node_count.ensures) (sym c.budget.ensures))
 
 pub first_node-first-requires : goal.first_node-first-requires
 first_node-first-requires c = some_node _ _ _ c.requires.placed
