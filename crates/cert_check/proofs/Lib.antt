@@ -6,5 +6,6 @@ mod WholeFacts
 mod EndedFacts
 mod AnswerFacts
 mod PassFacts
+mod WalkFacts
 pub mod RefusalFacts
 pub mod WrittenFacts

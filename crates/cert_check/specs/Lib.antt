@@ -5,4 +5,5 @@ pub mod Checking
 pub mod Refusals
 pub mod Bytes
 pub mod Written
+pub mod Walking
 pub mod Laws

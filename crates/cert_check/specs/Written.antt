@@ -33,12 +33,12 @@ pub record IsAcceptedCert (n : Net) (c : Cert) (v : Verdict) : Type 0 where
   pub short : All IsShort (items_of c)
   pub verdict : v ≡ c.verdict
 
--- the first line of the certificate on which a rule fails, and the first rule that fails on it
-pub record IsRefusedCert (n : Net) (c : Cert) (line rule : ℕ) : Type 0 where
+-- the first of the items' lines on which a rule fails, and the first rule that fails on it
+pub record IsRefusedLine (n : Net) (items : List Item) (line rule : ℕ) : Type 0 where
   pub front : List Item
   pub item : Item
   pub rest : List Item
-  pub parts : items_of c ≡ front ++ item ∷ rest
+  pub parts : items ≡ front ++ item ∷ rest
   pub checked : IsChecked n front
   pub short : All IsShort front
   pub fault : IsFirstLineFault n (held_after none_held front) item rule
@@ -47,5 +47,5 @@ pub record IsRefusedCert (n : Net) (c : Cert) (line rule : ℕ) : Type 0 where
 -- what a check of a certificate answers
 abbrev pub ChecksCert : Net → Cert → Result Verdict CheckFault → Type 0
 ChecksCert n c (Ok v) = IsAcceptedCert n c v × IsTrueOf n v
-ChecksCert n c (Err (Fault f)) = IsRefusedCert n c f.line f.rule
+ChecksCert n c (Err (Fault f)) = IsRefusedLine n (items_of c) f.line f.rule
 ChecksCert n c (Err NoMemory) = ⊤

@@ -28,8 +28,8 @@ fn hand_whole(alloc: Global, bytes: &[u8], checker: &mut Checker) -> Result<(), 
     reader.finish(checker, &mut ())
 }
 
-// Why there is no verdict: the reader's fault, or the checker's on the line that it refused.
-fn refusal(stop: FeedStop, rule: Option<u8>) -> CheckFault
+/// Why there is no verdict: the reader's fault, or the checker's on the line that it refused.
+pub(crate) fn refusal(stop: FeedStop, rule: Option<u8>) -> CheckFault
     requires { HasRule stop rule }
     ensures { result ≡ refusal_by stop rule }
 {

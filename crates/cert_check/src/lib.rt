@@ -10,9 +10,14 @@ mod not_yet;
 mod numbers;
 mod pending;
 mod rules;
+#[cfg(test)]
+mod tests;
+mod walk;
+mod written;
 
 pub use bytes::check_bytes;
 pub use check_fault::CheckFault;
 pub use checker::Checker;
 pub use laws::{not_both_law, refusal_one_law, verdict_one_law, written_law};
 pub use not_yet::SPLIT_NOT_YET;
+pub use written::check;
