@@ -24,7 +24,7 @@ seen c = state_of (StandsFor c) c.stops (Refuses c)
 abbrev pub Fed : Net → List ℕ → Checking → Place → Result (Unit {0}) FeedStop → Type 0
 Fed n bytes now place result = Feeds (whole bytes) (seen (new_checking n)) (seen now) 0 place result
 
-none_came : (n : Net) → StandsFor (new_checking n) []
+pub none_came : (n : Net) → StandsFor (new_checking n) []
 none_came n = record { came = refl; checked = record { keep = tt; no_split = refl } }
 
 -- the items that were taken passed

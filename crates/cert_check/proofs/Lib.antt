@@ -7,5 +7,6 @@ mod EndedFacts
 mod AnswerFacts
 mod PassFacts
 mod WalkFacts
+mod WalkedFacts
 pub mod RefusalFacts
 pub mod WrittenFacts

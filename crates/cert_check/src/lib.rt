@@ -8,7 +8,6 @@ mod checker;
 mod laws;
 mod not_yet;
 mod numbers;
-mod pending;
 mod rules;
 #[cfg(test)]
 mod tests;

@@ -13,8 +13,8 @@ ghost use Rattle.cert_check.specs.Keeping.{IsKept, FoundIn};
 
 use crate::came::Came;
 use crate::not_yet::SPLIT_NOT_YET;
-use crate::pending::{node_bound, node_fault};
 use end_rules::{end_fault, found_of, keep_better};
+use node_rules::{node_bound, node_fault};
 use service_model::cert_rules::NETWORK;
 use service_model::{
     Head, Item, List, Network, NoMemory, Node, Plan, Range, Table, Verdict, topological_order,

@@ -1,6 +1,6 @@
 // The lines of a certificate, one after another.
-ghost use Rattle.std.specs.Prelude.{◌≡◌, ◌↔◌, [], ◌∷◌, ◌++◌, map, drop, take, IfOk, IsTrue};
-ghost use Rattle.service_model.specs.declared.cert.Item.TheVariants.{Table as TableItem, Node as NodeItem, Split as SplitItem};
+ghost use Rattle.std.specs.Prelude.{◌≡◌, ◌↔◌, ◌+◌, ◌/◌, [], ◌∷◌, ◌++◌, map, drop, take, IfOk, IsTrue};
+ghost use Rattle.service_model.specs.declared.cert.Item.TheVariants.{Head as HeadItem, Table as TableItem, Node as NodeItem, Split as SplitItem, End as EndItem};
 ghost use Rattle.service_model.specs.Items.{split_after, items_from, items_of};
 ghost use Rattle.bound_cert.specs.Laws.{IsShort};
 
@@ -9,7 +9,9 @@ use crate::check_fault::CheckFault;
 use crate::checker::Checker;
 use bound_cert::{CertFault, FeedStop, MAX_LINE, line_of};
 use service_model::cert_rules::LONG_LINE;
-use service_model::{Cert, Item, Network, NoMemory, Node, Split, Table, TakeStop, Taker};
+use service_model::{
+    Cert, Head, Item, Network, NoMemory, Node, Split, Table, TakeStop, Taker, Verdict,
+};
 use std::alloc::Global;
 use std::marker::Model;
 
@@ -42,6 +44,20 @@ fn tables_between(tables: &[Table], from: usize, to: usize) -> &[Table]
 {
     let front = &tables[..to.min(tables.len())];
     &front[from.min(front.len())..]
+}
+
+// How many splits come among so many nodes: one after every other node, from the first on.
+fn splits_among(nodes: usize) -> usize
+    ensures { result ≡ (nodes + 1) / 2 }
+{
+    nodes / 2 + nodes % 2
+}
+
+// What is left behind the first so many.
+fn left<T>(items: &[T], from: usize) -> &[T]
+    ensures { result.now ≡ drop from items.now }
+{
+    &items[from.min(items.len())..]
 }
 
 // The split that comes after a node.
@@ -99,38 +115,61 @@ impl<'a> Walk<'a> {
         }
     }
 
+    fn table(&mut self, table: &Table) -> Result<(), CheckFault>
+        ensures { Walks self.old self.new (TableItem table.now ∷ []) result }
+    {
+        let item = Item::Table(table.copy(self.alloc)?);
+        self.item(&item)
+    }
+
     fn tables(&mut self, tables: &[Table]) -> Result<(), CheckFault>
         ensures { Walks self.old self.new (map TableItem tables.now) result }
     {
         'tables: for table in tables {
-            let item = Item::Table(table.copy(self.alloc)?);
-            if let Err(fault) = self.item(&item) {
+            if let Err(fault) = self.table(table) {
                 return Err(fault);
             }
         }
         Ok(())
+    }
+
+    fn split(&mut self, split: Split) -> Result<(), CheckFault>
+        ensures { Walks self.old self.new (SplitItem split ∷ []) result }
+    {
+        self.item(&Item::Split(split))
     }
 
     fn splits(&mut self, splits: &[Split]) -> Result<(), CheckFault>
         ensures { Walks self.old self.new (map SplitItem splits.now) result }
     {
         'splits: for split in splits {
-            if let Err(fault) = self.item(&Item::Split(*split)) {
+            if let Err(fault) = self.split(*split) {
                 return Err(fault);
             }
         }
         Ok(())
     }
 
+    fn node(&mut self, node: &Node) -> Result<(), CheckFault>
+        ensures { Walks self.old self.new (NodeItem node.now ∷ []) result }
+    {
+        let item = Item::Node(node.copy(self.alloc)?);
+        self.item(&item)
+    }
+
     // A node behind the tables that come before it, and the split that comes after it.
-    fn node(&mut self, tables: &[Table], node: &Node, splits: &[Split]) -> Result<(), CheckFault>
+    fn node_between(
+        &mut self,
+        tables: &[Table],
+        node: &Node,
+        splits: &[Split],
+    ) -> Result<(), CheckFault>
         ensures { Walks self.old self.new (map TableItem tables.now ++ NodeItem node.now ∷ map SplitItem splits.now) result }
     {
         if let Err(fault) = self.tables(tables) {
             return Err(fault);
         }
-        let item = Item::Node(node.copy(self.alloc)?);
-        if let Err(fault) = self.item(&item) {
+        if let Err(fault) = self.node(node) {
             return Err(fault);
         }
         self.splits(splits)
@@ -146,28 +185,47 @@ impl<'a> Walk<'a> {
         'nodes: for (k, node) in nodes.iter().enumerate() {
             let seen = node.seen as usize;
             let new_tables = tables_between(tables, came, seen);
-            if let Err(fault) = self.node(new_tables, node, split_behind(splits, k)) {
+            if let Err(fault) = self.node_between(new_tables, node, split_behind(splits, k)) {
                 return Err(fault);
             }
             came = came.max(seen);
         }
-        if let Err(fault) = self.tables(&tables[came.min(tables.len())..]) {
+        self.rest(left(tables, came), left(splits, splits_among(nodes.len())))
+    }
+
+    // The tables and splits that are left behind the last node.
+    fn rest(&mut self, tables: &[Table], splits: &[Split]) -> Result<(), CheckFault>
+        ensures { Walks self.old self.new (map TableItem tables.now ++ map SplitItem splits.now) result }
+    {
+        if let Err(fault) = self.tables(tables) {
             return Err(fault);
         }
-        self.splits(&splits[nodes.len().div_ceil(2).min(splits.len())..])
+        self.splits(splits)
+    }
+
+    fn head(&mut self, head: Head) -> Result<(), CheckFault>
+        ensures { Walks self.old self.new (HeadItem head ∷ []) result }
+    {
+        self.item(&Item::Head(head))
+    }
+
+    fn end(&mut self, verdict: &Verdict) -> Result<(), CheckFault>
+        ensures { Walks self.old self.new (EndItem verdict.now ∷ []) result }
+    {
+        let item = Item::End(verdict.copy(self.alloc)?);
+        self.item(&item)
     }
 
     /// All lines of a certificate.
     pub(crate) fn cert(&mut self, cert: &Cert) -> Result<(), CheckFault>
         ensures { Walks self.old self.new (items_of cert.now) result }
     {
-        if let Err(fault) = self.item(&Item::Head(cert.head)) {
+        if let Err(fault) = self.head(cert.head) {
             return Err(fault);
         }
         if let Err(fault) = self.nodes(cert) {
             return Err(fault);
         }
-        let item = Item::End(cert.verdict.copy(self.alloc)?);
-        self.item(&item)
+        self.end(&cert.verdict)
     }
 }

@@ -4,13 +4,20 @@ use Rattle.service_model.specs.declared.table.Table.{Table}
 use Rattle.service_model.specs.declared.table.Kind.TheVariants.{Root}
 use Rattle.service_model.specs.Net.{Net}
 use Rattle.service_model.specs.Repairs.{Found}
-use Rattle.service_model.specs.Tables.{table_at}
+use Rattle.service_model.specs.Tables.{table_at, IsShaped}
 use Rattle.service_model.specs.Nodes.{bound_of}
 use Rattle.service_model.specs.Held.{node_at, relaxed_of}
 use Rattle.service_model.specs.CertRules.{EndRule, IsFirstOf}
 use Rattle.cert_check.proofs.PlaceFacts.{some_node}
 use Rattle.cert_check.proofs.NodeFacts.{least_bound}
 use Rattle.cert_check.proofs.rules.Rules.end_fault.Goals as goal
+
+pub node_bound-least-requires-clause-shaped : goal.node_bound-least-requires-clause-shaped
+node_bound-least-requires-clause-shaped c =
+    let tables : c.args.came.now.tables ≡ c.tables.result.now = cc in (
+      c.args.self.now,
+      subst (λ (ts : List Table). (k : ℕ) → k < length ts → IsShaped c.args.self.now ts k (table_at ts k)) tables c.requires.kept.sound.tables.shaped,
+    )
 
 pub node_bound-least-requires-clause-there : goal.node_bound-least-requires-clause-there
 node_bound-least-requires-clause-there c =

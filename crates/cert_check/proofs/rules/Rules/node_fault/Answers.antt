@@ -15,4 +15,4 @@ returns c =
     let range : range_of n h c.node_count.result ≡ c.self.inside.whole =
     next_range n h c.args.node.now c.node_count.result c.requires.kept.1.no_split placed (sym c.node_count.ensures) ∙ sym c.self.invariant.whole in
     subst (λ (m : Net). IfOk c.node_fault.result (IsFirstOf (NodeRule m h c.args.node.now))) c.self.view_is
-    (c.node_fault.ensures h (sym c.tables.ensures) (sym c.node_count.ensures) (sym c.budget.ensures) range)
+    (c.node_fault.ensures.first h (sym c.tables.ensures) (sym c.node_count.ensures) (sym c.budget.ensures) range)
