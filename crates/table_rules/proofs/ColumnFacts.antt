@@ -69,36 +69,35 @@ column_by_part : (s : Stage) (t : Table) (down : List ℕ) (up outbound first en
 column_by_part s t down up outbound first end small from to some =
     let long = length-between down first end (omega arith) in
     let entry = λ (k : ℕ) (within : k < end - first).
-        get_or-between s.cost (first + s.lead - outbound) (end + s.lead - outbound) k 0 (omega arith) in
+    get_or-between s.cost (first + s.lead - outbound) (end + s.lead - outbound) k 0 (omega arith) in
     let same = λ (k : ℕ) (within : k < end - first). get_or-between down first end k 0 (omega arith) in
     let moved = λ (k : ℕ) (within : k < end - first).
-        let at : first + s.lead - outbound + k ≡ first + k + s.lead - outbound = omega arith in
-        ap (λ m. get_or s.cost m 0) at in
-    (
+    let at : first + s.lead - outbound + k ≡ first + k + s.lead - outbound = omega arith in
+    ap (λ m. get_or s.cost m 0) at in (
       λ part inbound above below.
-      let top : value_at t inbound outbound ≤ INF = value_top t.values (place_of t inbound outbound) small in
-      ⊎_elim
-      (λ early.
-      let cost = charge_early s.lead s.cost inbound outbound (omega arith) in
-      omega (arith, cost, top))
-      (λ late. ⊎_elim
-      (λ within.
-      let low : inbound - first < end - first = omega arith in
-      let here : HoldsAt s t down up outbound (first + (inbound - first)) =
+          let top : value_at t inbound outbound ≤ INF = value_top t.values (place_of t inbound outbound) small in
+          ⊎_elim
+          (λ early.
+          let cost = charge_early s.lead s.cost inbound outbound (omega arith) in
+          omega (arith, cost, top))
+          (λ late. ⊎_elim
+          (λ within.
+          let low : inbound - first < end - first = omega arith in
+          let here : HoldsAt s t down up outbound (first + (inbound - first)) =
           omega (arith, part (inbound - first) (omega (arith, long)), entry (inbound - first) low, same (inbound - first) low, moved (inbound - first) low) in
-      let back : first + (inbound - first) ≡ inbound = omega arith in
-      let there : HoldsAt s t down up outbound inbound = subst (HoldsAt s t down up outbound) back here in
-      let cost = charge_allowed s.lead s.cost inbound outbound (omega arith) (omega arith) in
-      omega (arith, there, cost, top))
-      (λ past.
-      let cost = charge_past s.lead s.cost inbound outbound (omega arith) in
-      omega (arith, cost, top))
-      (cases_lt inbound end))
-      (cases_lt inbound first),
+          let back : first + (inbound - first) ≡ inbound = omega arith in
+          let there : HoldsAt s t down up outbound inbound = subst (HoldsAt s t down up outbound) back here in
+          let cost = charge_allowed s.lead s.cost inbound outbound (omega arith) (omega arith) in
+          omega (arith, there, cost, top))
+          (λ past.
+          let cost = charge_past s.lead s.cost inbound outbound (omega arith) in
+          omega (arith, cost, top))
+          (cases_lt inbound end))
+          (cases_lt inbound first),
       λ column k within.
-      let low : k < end - first = omega (arith, long) in
-      let cost = charge_allowed s.lead s.cost (first + k) outbound (omega arith) (omega arith) in
-      omega (arith, column (first + k) (omega arith) (omega arith), cost, entry k low, same k low, moved k low),
+          let low : k < end - first = omega (arith, long) in
+          let cost = charge_allowed s.lead s.cost (first + k) outbound (omega arith) (omega arith) in
+          omega (arith, column (first + k) (omega arith) (omega arith), cost, entry k low, same k low, moved k low),
     )
 
 -- the times from the first to the end, which the cost list allows, decide whether a column holds

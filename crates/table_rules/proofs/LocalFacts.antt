@@ -46,8 +46,8 @@ local_in_parts : (n : Net) (tables : List Table) (t : Table) (down up : List ℕ
     ≡ capped (charge (stage_at n t.stage).lead (stage_at n t.stage).cost inbound outbound + get_or down inbound 0 + get_or up outbound 0)
 local_in_parts n tables t down up inbound outbound fit downs ups low low' =
     let parts =
-        children_in_parts n tables t inbound outbound t.children
-        (recursion_from_All (λ c. IsChild (table_at tables c).kind n.arcs (table_at tables c).stage t.stage) t.children fit) in
+    children_in_parts n tables t inbound outbound t.children
+    (recursion_from_All (λ c. IsChild (table_at tables c).kind n.arcs (table_at tables c).stage t.stage) t.children fit) in
     omega (arith, parts, downs inbound low, ups outbound low')
 
 pub local_by_columns : (n : Net) (tables : List Table) (t : Table) (down up : List ℕ)
@@ -66,6 +66,6 @@ local_by_columns n tables t down up fit downs ups long long' within = (
       let low' : outbound < length up = omega (arith, long', late) in
       let same = local_in_parts n tables t down up inbound outbound fit downs ups below low' in
       let covers : Covers n t inbound outbound =
-          record { not_early = early; not_late = omega arith; not_below = above; not_above = omega (arith, long) } in
+      record { not_early = early; not_late = omega arith; not_below = above; not_above = omega (arith, long) } in
       omega (arith, local inbound outbound covers, same),
 )

@@ -1,7 +1,5 @@
 // Whether the values of a table are at most its local sums, one outbound time after another.
 ghost use Rattle.std.specs.Prelude.{◌≡◌, ◌+◌, ◌-◌, ◌<◌, ◌≤◌, ◌^◌, ◌↔◌, ℕ, All, IsTrue, length, slice_index};
-ghost use Rattle.service_model.specs.declared.table.Kind.{Kind};
-ghost use Rattle.service_model.specs.declared.table.Kind.TheVariants.{Down, Up, Root};
 ghost use Rattle.service_model.specs.Net.{stage_at};
 ghost use Rattle.service_model.specs.Tables.{IsSized, value_at};
 ghost use Rattle.table_rules.specs.Sums.{ColumnHolds, FitsPart, IsLeastSum};

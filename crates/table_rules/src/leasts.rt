@@ -16,20 +16,20 @@ fn entry_from(entries: &[u64], start: usize, time: usize) -> u64
 }
 
 /// Adds to the sum of each time the least of the values up to it, where value 0 stands at the start.
-#[tactic(auto, using(crate::proofs::LeastFacts::least_of_top, crate::proofs::LeastFacts::least_taken))]
+#[tactic(auto, using(crate::proofs::LeastFacts::least_of_top))]
 pub fn add_leasts_up_to(values: &[u64], start: usize, sums: &mut [u64])
     requires { All (λ x. x ≤ INF) sums.old }
     ensures { EachIndex sums.new (λ i. slice_index sums.new i ≡ capped (slice_index sums.old i + least_of (take (i + 1 - start) values.now))) }
 {
     let mut least = INF;
-    'times: for time in 0..sums.len() {
+    'times: for (time, sum) in sums.iter_mut().enumerate() {
         least = least.min(entry_from(values, start, time));
-        sums[time] = capped_add(sums[time], least);
+        *sum = capped_add(*sum, least);
     }
 }
 
 /// Adds to the sum of each time the least of the values from it and a shift on, where value 0 stands at the start.
-#[tactic(auto, using(crate::proofs::LeastFacts::least_of_top, crate::proofs::LeastFacts::least_dropped, crate::proofs::LeastFacts::least_past))]
+#[tactic(auto, using(crate::proofs::LeastFacts::least_of_top, crate::proofs::LeastFacts::least_past))]
 pub fn add_leasts_from(values: &[u64], start: usize, shift: usize, sums: &mut [u64])
     requires sums { All (λ x. x ≤ INF) sums.old }
     requires short { length sums.old < 2 ^ 32 }

@@ -111,6 +111,7 @@ fn fault_of(
 }
 
 const SUPPLIER: Row = (0, Kind::Down, [0, 3, 0], &[], &[4, 3, 2, 0]);
+
 const CUSTOMER: Row = (1, Kind::Up, [0, 0, 0], &[], &[5, 7, 8, 9, INF]);
 
 #[test]
@@ -121,12 +122,36 @@ fn each_rule_is_the_first_that_fails(rt: HostRuntime) -> Result<(), Fail> {
     let cases: [(Row, Row, Option<u8>); 8] = [
         (SUPPLIER, (1, Kind::Root, [0, 0, 0], &[0], &[9]), None),
         (CUSTOMER, (0, Kind::Root, [0, 3, 0], &[0], &[9]), None),
-        (SUPPLIER, (1, Kind::Root, [0, 0, 5], &[0], &[9]), Some(TABLE)),
-        (SUPPLIER, (1, Kind::Root, [0, 0, 0], &[1], &[9]), Some(CHILD)),
-        (CUSTOMER, (1, Kind::Root, [0, 0, 0], &[0], &[9]), Some(CHILD_ARC)),
-        (SUPPLIER, (1, Kind::Root, [0, 0, 0], &[0], &[10]), Some(LOCAL)),
-        (CUSTOMER, (0, Kind::Root, [0, 3, 0], &[0], &[10]), Some(LOCAL)),
-        (CUSTOMER, (0, Kind::Root, [0, 3, 0], &[0], &[INF + 1]), Some(SHAPE)),
+        (
+            SUPPLIER,
+            (1, Kind::Root, [0, 0, 5], &[0], &[9]),
+            Some(TABLE),
+        ),
+        (
+            SUPPLIER,
+            (1, Kind::Root, [0, 0, 0], &[1], &[9]),
+            Some(CHILD),
+        ),
+        (
+            CUSTOMER,
+            (1, Kind::Root, [0, 0, 0], &[0], &[9]),
+            Some(CHILD_ARC),
+        ),
+        (
+            SUPPLIER,
+            (1, Kind::Root, [0, 0, 0], &[0], &[10]),
+            Some(LOCAL),
+        ),
+        (
+            CUSTOMER,
+            (0, Kind::Root, [0, 3, 0], &[0], &[10]),
+            Some(LOCAL),
+        ),
+        (
+            CUSTOMER,
+            (0, Kind::Root, [0, 3, 0], &[0], &[INF + 1]),
+            Some(SHAPE),
+        ),
     ];
     for (first, second, fault) in cases {
         assert_eq!(rt; fault_of(alloc, &network, first, second)?, fault);
@@ -142,8 +167,16 @@ fn a_transit_moves_the_times(rt: HostRuntime) -> Result<(), Fail> {
     let cases: [(Row, Row, Option<u8>); 5] = [
         (SUPPLIER, (1, Kind::Root, [0, 0, 0], &[0], &[11]), None),
         (CUSTOMER, (0, Kind::Root, [0, 3, 0], &[0], &[11]), None),
-        (SUPPLIER, (1, Kind::Root, [0, 0, 0], &[0], &[12]), Some(LOCAL)),
-        (CUSTOMER, (0, Kind::Root, [0, 3, 0], &[0], &[12]), Some(LOCAL)),
+        (
+            SUPPLIER,
+            (1, Kind::Root, [0, 0, 0], &[0], &[12]),
+            Some(LOCAL),
+        ),
+        (
+            CUSTOMER,
+            (0, Kind::Root, [0, 3, 0], &[0], &[12]),
+            Some(LOCAL),
+        ),
         (SUPPLIER, (1, Kind::Root, [0, 0, 5], &[0], &[INF]), None),
     ];
     for (first, second, fault) in cases {

@@ -1,5 +1,5 @@
 -- A table that keeps its rules over no tables has no children.
-use Rattle.std.proofs.Common.{ℕ, zero, suc, List, [], ◌∷◌, None, Option, subst, arith}
+use Rattle.std.proofs.Common.{ℕ, zero, suc, [], ◌∷◌, None, Option, subst, arith}
 use Rattle.std.specs.Prelude.{IfNone}
 use Rattle.service_model.specs.declared.cert_rules.TheConstants.{TABLE, CHILD}
 use Rattle.service_model.specs.declared.table.Table.{Table}
