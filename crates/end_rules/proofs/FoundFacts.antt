@@ -1,10 +1,10 @@
 -- The best of some repairs, with one repair more.
-use Rattle.std.proofs.Common.{◌≡◌, ℕ, ◌<◌, ◌≤◌, Bool, true, false, cond, Option, Some, None, refl, ap, subst, inl, inr, ⊎_elim, arith}
-use Rattle.std.specs.Prelude.{nat_lt, IfSome, ◌⊎◌}
+use Rattle.std.proofs.Common.{◌≡◌, ◌<◌, ◌≤◌, Bool, true, false, cond, Option, Some, None, refl, ap, subst, inl, inr, ⊎_elim, arith}
+use Rattle.std.specs.Prelude.{nat_lt, ◌⊎◌}
 use Rattle.std.proofs.lemmas.Bool.{ltb-true, ltb-false}
 use Rattle.service_model.specs.declared.plan.Plan.{Plan}
 use Rattle.service_model.specs.Net.{Net}
-use Rattle.service_model.specs.Plans.{Feasible, cost_of}
+use Rattle.service_model.specs.Plans.{cost_of}
 use Rattle.service_model.specs.Repairs.{Repair, Raise, Lower, Shift, IsCandidateOf, turn, FoundOf, better}
 use Rattle.end_rules.specs.Candidates.{IsTheCandidate, CandidateOf}
 

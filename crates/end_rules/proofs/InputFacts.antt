@@ -1,5 +1,5 @@
 -- The arcs that lead to a stage bring its inputs.
-use Rattle.std.proofs.Common.{◌≡◌, ℕ, zero, suc, ◌+◌, ◌<◌, ◌≤◌, ◌==◌, Bool, true, false, cond, List, [], ◌∷◌, ◌++◌, length, get_or, set, take, refl, sym, ap, ◌∙◌, arith}
+use Rattle.std.proofs.Common.{◌≡◌, ℕ, zero, suc, ◌+◌, ◌<◌, ◌==◌, Bool, true, false, cond, List, [], ◌∷◌, ◌++◌, length, get_or, set, take, refl, sym, ap, ◌∙◌, arith}
 use Rattle.std.specs.Prelude.{max, All}
 use Rattle.std.specs.List.{AllByRecursion}
 use Rattle.std.proofs.lemmas.Bool.{eqb-true}
@@ -7,9 +7,8 @@ use Rattle.std.proofs.lemmas.List.{length-set, append-nil, get_or_read}
 use Rattle.std.proofs.lemmas.List.Elements.{All-from_recursion}
 use Rattle.service_model.specs.declared.stage.SupplyArc.{SupplyArc}
 use Rattle.service_model.specs.declared.plan.Plan.{Plan}
-use Rattle.service_model.specs.Net.{Net, net_of, stage_at, arc_in}
-use Rattle.service_model.specs.declared.limits.TheConstants.{MAX_HORIZON, MAX_TIME}
-use Rattle.service_model.specs.Plans.{HasTimes, outbound_at}
+use Rattle.service_model.specs.Net.{Net, net_of, arc_in}
+use Rattle.service_model.specs.Plans.{HasTimes}
 use Rattle.service_model.specs.Faults.{IsNetwork}
 use Rattle.service_model.specs.Repairs.{latest_arrival}
 use Rattle.end_rules.specs.Inputs.{arcs_to, HasInputs, IsEarly, latest_input}

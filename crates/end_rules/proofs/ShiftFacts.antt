@@ -1,12 +1,11 @@
 -- A shift is made stage by stage, suppliers first.
-use Rattle.std.proofs.Common.{◌≡◌, ◌≢◌, ℕ, zero, suc, ◌+◌, ◌-◌, ◌<◌, ◌≤◌, Bool, true, false, min, List, [], ◌∷◌, length, get_or, set, refl, sym, ap, ◌∙◌, subst, ⊎_elim, arith}
+use Rattle.std.proofs.Common.{◌≡◌, ◌≢◌, ℕ, suc, ◌<◌, ◌≤◌, min, List, length, get_or, set, sym, ap, ◌∙◌, subst, ⊎_elim, arith}
 use Rattle.std.specs.List.{AllByRecursion}
 use Rattle.std.proofs.lemmas.Bool.{cases_eq}
 use Rattle.std.proofs.lemmas.List.{get_or-set_same, get_or-set_other, length-set}
-use Rattle.service_model.specs.declared.stage.SupplyArc.{SupplyArc}
 use Rattle.service_model.specs.declared.plan.Plan.{Plan}
 use Rattle.service_model.specs.Net.{Net, stage_at, arc_in}
-use Rattle.service_model.specs.Plans.{HasTimes, inbound_at, outbound_at}
+use Rattle.service_model.specs.Plans.{HasTimes, inbound_at}
 use Rattle.service_model.specs.Faults.{IsNetwork}
 use Rattle.service_model.specs.Orders.{IsTopological}
 use Rattle.service_model.specs.Repairs.{Shift, IsRepairable, IsRepair, RepairsStage, latest_arrival}
@@ -70,8 +69,7 @@ shifted_more n q p order k valid sorted inside known =
       most = λ i within. low_more _ _ p.outbound j i (stage_at n i).most out (λ same. omega (arith, ap (λ x. (stage_at n x).most) same)) (known.most i within);
       done = λ m less. ⊎_elim
           (λ same. subst (λ x. RepairsStage Shift n q p' (get_or order x 0)) (sym same)
-          (let wait : get_or (set p.inbound j late) j 0 ≡ late = get_or-set_same p.inbound j late 0 there in
-          (
+          (let wait : get_or (set p.inbound j late) j 0 ≡ late = get_or-set_same p.inbound j late 0 there in (
             wait ∙ sym (arrival_stays n order k k p p'.inbound (inbound_at q j) more valid sorted inside (omega arith)),
             get_or-set_same p.outbound j more 0 out ∙ ap (quoted_after n q j) (sym wait),
           )))
@@ -79,8 +77,7 @@ shifted_more n q p order k valid sorted inside known =
           let i = get_or order m 0 in
           let early : m < k = omega arith in
           let other : get_or order m 0 ≢ get_or order k 0 = λ same. differ (stage_once (length n.stages) n.arcs order sorted m k (omega arith) inside same) in
-          let wait : get_or (set p.inbound j late) i 0 ≡ get_or p.inbound i 0 = get_or-set_other p.inbound j i late 0 other in
-          (
+          let wait : get_or (set p.inbound j late) i 0 ≡ get_or p.inbound i 0 = get_or-set_other p.inbound j i late 0 other in (
             wait ∙ (known.done m early).0 ∙ sym (arrival_stays n order k m p p'.inbound (inbound_at q i) more valid sorted inside (omega arith)),
             get_or-set_other p.outbound j i more 0 other ∙ (known.done m early).1 ∙ ap (quoted_after n q i) (sym wait),
           ))

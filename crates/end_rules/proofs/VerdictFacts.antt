@@ -1,11 +1,10 @@
 -- The rules on verdicts, by the plan found and the least bound.
-use Rattle.std.proofs.Common.{◌≡◌, ℕ, ◌<◌, ◌==◌, Bool, true, false, List, length, map, Option, Some, None, refl, sym, ◌∙◌, subst, arith}
+use Rattle.std.proofs.Common.{◌≡◌, ℕ, ◌==◌, Bool, true, false, length, Option, Some, None, refl, sym, ◌∙◌, subst, arith}
 use Rattle.std.specs.Prelude.{MatchBool, ⊤}
 use Rattle.std.proofs.lemmas.Bool.{eqb-true}
 use Rattle.std.proofs.lemmas.List.{length-map}
 use Rattle.service_model.specs.declared.cert_rules.TheConstants.{VERDICT, PLAN}
 use Rattle.service_model.specs.declared.plan.Plan.{Plan}
-use Rattle.service_model.specs.declared.cert.Node.{Node}
 use Rattle.service_model.specs.declared.cert.Verdict.{Verdict}
 use Rattle.service_model.specs.Net.{Net}
 use Rattle.service_model.specs.Faults.{IsNetwork}
@@ -58,20 +57,22 @@ both A B false false a b = tt
 -- the first rule fails
 pub verdict_fails : (n : Net) (h : Held) (v : Verdict) (nodes budget least : ℕ) (found : Option Plan) → IsKnown n h nodes budget least found
     → ¬ EndsWith v.outcome n found least nodes budget v.bound → IsFirstOf (EndRule n h v) (Some VERDICT)
-verdict_fails n h v nodes budget least found known not =
-    (λ as_told. not (is_told n h v nodes budget least found known as_told),
-    λ k less. both (EndsAsTold n h v) (HasEndingPlan n h v) (k == VERDICT) (k == PLAN)
-    (λ is. absurd (omega (arith, less, eqb-true k VERDICT is)))
-    (λ is. absurd (omega (arith, less, eqb-true k PLAN is))))
+verdict_fails n h v nodes budget least found known not = (
+  λ as_told. not (is_told n h v nodes budget least found known as_told),
+  λ k less. both (EndsAsTold n h v) (HasEndingPlan n h v) (k == VERDICT) (k == PLAN)
+      (λ is. absurd (omega (arith, less, eqb-true k VERDICT is)))
+      (λ is. absurd (omega (arith, less, eqb-true k PLAN is))),
+)
 
 -- the first rule holds, and the second fails
 pub plan_fails : (n : Net) (h : Held) (v : Verdict) (nodes budget least : ℕ) (found : Option Plan) → IsKnown n h nodes budget least found
     → EndsWith v.outcome n found least nodes budget v.bound → ¬ (v.plan ≡ ending_plan v.outcome found) → IsFirstOf (EndRule n h v) (Some PLAN)
-plan_fails n h v nodes budget least found known ends not =
-    (λ has. not (has found known.is_found),
-    λ k less. both (EndsAsTold n h v) (HasEndingPlan n h v) (k == VERDICT) (k == PLAN)
-    (λ is. told n h v nodes budget least found known ends)
-    (λ is. absurd (omega (arith, less, eqb-true k PLAN is))))
+plan_fails n h v nodes budget least found known ends not = (
+  λ has. not (has found known.is_found),
+  λ k less. both (EndsAsTold n h v) (HasEndingPlan n h v) (k == VERDICT) (k == PLAN)
+      (λ is. told n h v nodes budget least found known ends)
+      (λ is. absurd (omega (arith, less, eqb-true k PLAN is))),
+)
 
 -- both rules hold
 pub none_fails : (n : Net) (h : Held) (v : Verdict) (nodes budget least : ℕ) (found : Option Plan) → IsKnown n h nodes budget least found

@@ -40,8 +40,10 @@ fn best_repair(
     ensures { IfOk result (FoundOf network.now (Some plan.now)) }
 {
     let mut best = raised(alloc, network, plan)?;
-    keep_better(network, &mut best, lowered(alloc, network, plan)?);
-    keep_better(network, &mut best, shifted(alloc, network, order, plan)?);
+    let second = lowered(alloc, network, plan)?;
+    keep_better(network, &mut best, second);
+    let third = shifted(alloc, network, order, plan)?;
+    keep_better(network, &mut best, third);
     Ok(best)
 }
 

@@ -6,9 +6,9 @@ mod found;
 mod inputs;
 mod raise_lower;
 mod shift;
-mod verdicts;
 #[cfg(test)]
 mod tests;
+mod verdicts;
 
 pub use found::{found_of, keep_better};
 pub use verdicts::end_fault;

@@ -1,4 +1,4 @@
-use Rattle.std.proofs.Common.{◌≡◌, ◌<◌, ◌≤◌, ◌+◌, ◌^◌, length, get_or, add-one, arith, rules}
+use Rattle.std.proofs.Common.{◌≡◌, ◌<◌, length, add-one, arith, rules}
 use Rattle.service_model.specs.Net.{arc_in}
 use Rattle.end_rules.proofs.TimeFacts.{arrivals_more}
 use Rattle.end_rules.proofs.raise_lower.arrivals.Goals as goal

@@ -1,4 +1,3 @@
-use Rattle.std.proofs.Common.{rules}
 use Rattle.service_model.specs.Repairs.{Lower}
 use Rattle.end_rules.proofs.CandidateFacts.{lower_from, candidate_from}
 use Rattle.end_rules.proofs.raise_lower.lowered.Goals as goal

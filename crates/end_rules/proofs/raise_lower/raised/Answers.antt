@@ -1,4 +1,3 @@
-use Rattle.std.proofs.Common.{rules}
 use Rattle.service_model.specs.Repairs.{Raise}
 use Rattle.end_rules.proofs.CandidateFacts.{raise_from, candidate_from}
 use Rattle.end_rules.proofs.raise_lower.raised.Goals as goal

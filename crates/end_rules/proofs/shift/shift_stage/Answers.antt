@@ -1,10 +1,10 @@
-use Rattle.std.proofs.Common.{◌≡◌, List, refl, sym, ap, ◌∙◌, subst, arith, rules}
+use Rattle.std.proofs.Common.{◌≡◌, List, refl, sym, ◌∙◌, subst, arith, rules}
 use Rattle.std.specs.Prelude.{All}
 use Rattle.service_model.specs.declared.stage.SupplyArc.{SupplyArc}
 use Rattle.service_model.specs.Net.{stage_at}
 use Rattle.service_model.specs.Plans.{inbound_at, outbound_at}
 use Rattle.service_model.specs.Repairs.{latest_arrival}
-use Rattle.end_rules.specs.Inputs.{IsEarly, latest_input}
+use Rattle.end_rules.specs.Inputs.{IsEarly}
 use Rattle.end_rules.specs.Shifts.{quoted_after}
 use Rattle.end_rules.proofs.InputFacts.{input_is_arrival, inputs_early, inputs_at}
 use Rattle.end_rules.proofs.shift.shift_stage.Goals as goal

@@ -1,5 +1,4 @@
 use Rattle.std.proofs.Common.{◌≡◌, ◌<◌, length, get_or, add-one, ap, ◌∙◌, arith, rules}
-use Rattle.service_model.specs.Plans.{inbound_at}
 use Rattle.end_rules.specs.Shifts.{with_shifted}
 use Rattle.end_rules.proofs.ShiftFacts.{shifted_more, shifted_all}
 use Rattle.end_rules.proofs.shift.shifted_plan.Goals as goal

@@ -1,4 +1,4 @@
-use Rattle.std.proofs.Common.{sym, refl}
+use Rattle.std.proofs.Common.{refl}
 use Rattle.end_rules.proofs.VerdictFacts.{verdict_fails, plan_fails, none_fails}
 use Rattle.end_rules.proofs.verdicts.end_fault.Goals as goal
 
