@@ -1,5 +1,5 @@
 -- What a checker's answer to bytes says of them.
-use Rattle.std.proofs.Common.{◌≡◌, ◌≤◌, ℕ, ◌+◌, List, [], ◌∷◌, ◌++◌, length, Option, Some, None, IsSome, is_some, Result, Ok, Err, refl, sym, ap, ◌∙◌, subst, inl, inr, arith, append-nil}
+use Rattle.std.proofs.Common.{◌≡◌, ℕ, List, [], ◌++◌, Option, Some, IsSome, is_some, Result, Ok, Err, refl, sym, ap, ◌∙◌, subst, inl, inr, arith, append-nil}
 use Rattle.service_model.specs.declared.cert.Verdict.{Verdict}
 use Rattle.service_model.specs.declared.cert.Item.{Item}
 use Rattle.service_model.specs.Net.{Net}

@@ -1,14 +1,12 @@
 -- Where no split came, the first node has the whole range, and is the only leaf.
-use Rattle.std.proofs.Common.{◌≡◌, ℕ, ◌*◌, ◌+◌, ◌<◌, ◌≤◌, ◌≢◌, List, [], length, map, refl, sym, ap, ◌∙◌, subst, arith}
-use Rattle.std.specs.Prelude.{All}
+use Rattle.std.proofs.Common.{◌≡◌, ℕ, ◌<◌, ◌≤◌, List, [], length, map, sym, ap, ◌∙◌, subst, arith}
 use Rattle.std.proofs.lemmas.List.{get_or-map}
 use Rattle.service_model.specs.declared.cert.Node.{Node}
-use Rattle.service_model.specs.declared.cert.Split.{Split}
 use Rattle.service_model.specs.declared.cert.Item.TheVariants.{Node as NodeItem}
 use Rattle.service_model.specs.Net.{Net}
 use Rattle.service_model.specs.Ranges.{whole_of}
-use Rattle.service_model.specs.Nodes.{IsNode, bound_of}
-use Rattle.service_model.specs.CertRanges.{Cut, IsLeaf, node_range, node_bound}
+use Rattle.service_model.specs.Nodes.{bound_of}
+use Rattle.service_model.specs.CertRanges.{Cut, node_range, node_bound}
 use Rattle.service_model.specs.Verdicts.{IsLeastBound}
 use Rattle.service_model.specs.Held.{Held, no_node, node_at, cut_by, cuts_of, roots_of, range_of}
 use Rattle.cert_check.specs.Faults.{IsPlaced}

@@ -7,7 +7,7 @@ use Rattle.service_model.specs.Items.{split_of, splits_in}
 use Rattle.service_model.specs.Held.{Held, none_held, held_with, held_after}
 use Rattle.service_model.specs.Certs.{IsFirstBroken, AllKeep}
 use Rattle.cert_laws.proofs.FaultFacts.{fault_one_law}
-use Rattle.cert_check.specs.Faults.{IsFirstFault, IsPassed, IsChecked}
+use Rattle.cert_check.specs.Faults.{IsFirstFault, IsPassed}
 
 -- each of the items passes, one after another
 abbrev pub AllPass : Net → Held → List Item → Type 0

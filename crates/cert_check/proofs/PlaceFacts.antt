@@ -1,5 +1,5 @@
 -- What the rules up to PLACE say of an item, and the first fault where one of them fails.
-use Rattle.std.proofs.Common.{◌≡◌, ℕ, ◌*◌, ◌<◌, ◌≤◌, List, [], length, inl, ap, arith}
+use Rattle.std.proofs.Common.{◌≡◌, ℕ, ◌*◌, ◌<◌, List, [], length, inl, ap, arith}
 use Rattle.std.proofs.lemmas.Bool.{ltb-false, leb-false}
 use Rattle.service_model.specs.declared.cert_rules.TheConstants.{SHAPE, PLACE}
 use Rattle.service_model.specs.declared.table.Table.{Table}

@@ -1,5 +1,5 @@
 -- Bytes are accepted with one verdict, or refused at one place by one rule.
-use Rattle.std.proofs.Common.{◌≡◌, ℕ, ◌+◌, List, [], ◌∷◌, ◌++◌, length, Some, Result, Ok, Err, sym, ap, ◌∙◌, subst, inl, inr, arith}
+use Rattle.std.proofs.Common.{◌≡◌, ℕ, List, length, Result, Ok, Err, sym, ap, ◌∙◌, subst, inl, inr, arith}
 use Rattle.service_model.specs.declared.cert.Item.{Item}
 use Rattle.service_model.specs.Net.{Net}
 use Rattle.service_model.specs.Held.{none_held, held_after}

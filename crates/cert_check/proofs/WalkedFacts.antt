@@ -1,5 +1,5 @@
 -- What a walk over all lines of a certificate says of it.
-use Rattle.std.proofs.Common.{◌≡◌, [], ◌∷◌, Option, Some, Result, Ok, Err, refl, sym, ap, ◌∙◌, subst, arith}
+use Rattle.std.proofs.Common.{◌≡◌, [], ◌∷◌, Option, Some, Ok, Err, refl, sym, ap, ◌∙◌, subst, arith}
 use Rattle.service_model.specs.declared.cert.Verdict.{Verdict}
 use Rattle.service_model.specs.declared.cert.Cert.{Cert}
 use Rattle.service_model.specs.declared.cert.Item.TheVariants.{Head as HeadItem}

@@ -1,13 +1,13 @@
 -- Bytes that are handed to a taker in one piece, and then ended.
-use Rattle.std.proofs.Common.{◌≡◌, ◌≤◌, ℕ, ◌+◌, List, [], ◌∷◌, ◌++◌, length, Option, Some, None, Result, Ok, Err, refl, sym, ap, ◌∙◌, subst, arith, append_assoc, append-nil, length-append}
+use Rattle.std.proofs.Common.{◌≡◌, ℕ, ◌+◌, List, [], ◌∷◌, ◌++◌, length, Option, Some, None, Result, Ok, Err, refl, sym, ap, ◌∙◌, subst, arith, append_assoc, append-nil, length-append}
 use Rattle.service_model.specs.declared.cert.Item.{Item}
 use Rattle.service_model.specs.declared.taker.TakeStop.{TakeStop}
 use Rattle.service_model.specs.declared.taker.TakeStop.TheVariants as takes
-use Rattle.service_model.specs.Takers.{Rose, TakerState, StopsAt, HandsEnd, Hands}
+use Rattle.service_model.specs.Takers.{Rose, TakerState, HandsEnd}
 use Rattle.bound_cert.specs.declared.fault.CertFault.{CertFault}
 use Rattle.bound_cert.specs.declared.fault.FeedStop.{FeedStop}
 use Rattle.bound_cert.specs.declared.fault.FeedStop.TheVariants.{Fault, Stopped, NoMemory}
-use Rattle.bound_cert.specs.Stream.{Place, Step, Reads, start, read_byte, go_on, behind, reads, then_reads}
+use Rattle.bound_cert.specs.Stream.{Place, Step, Reads, read_byte, go_on, behind, reads, then_reads}
 use Rattle.bound_cert.specs.Feeding.{take_stop, BytesEnd, StopsAfter, Feeds}
 use Rattle.bound_cert.proofs.StreamFacts.{CountsLines, read_byte_counts}
 

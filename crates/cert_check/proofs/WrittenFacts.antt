@@ -1,5 +1,5 @@
 -- The lines of a certificate on which no rule fails are accepted.
-use Rattle.std.proofs.Common.{◌≡◌, ℕ, ◌+◌, ◌/◌, ◌%◌, ◌==◌, Bool, true, false, max, List, [], ◌∷◌, ◌++◌, map, take, drop, is_some, if◌then◌else◌, flat_map, refl, sym, ap, ◌∙◌, subst}
+use Rattle.std.proofs.Common.{◌≡◌, ℕ, ◌+◌, ◌/◌, ◌%◌, ◌==◌, Bool, true, false, max, List, [], ◌∷◌, ◌++◌, map, take, drop, is_some, if◌then◌else◌, refl, sym, ap, ◌∙◌, subst}
 use Rattle.std.proofs.Math.Seq.{drop-nil, take-nil}
 use Rattle.std.proofs.lemmas.List.Elements.{filter_map-append}
 use Rattle.service_model.specs.declared.table.Table.{Table}
@@ -8,15 +8,12 @@ use Rattle.service_model.specs.declared.cert.Split.{Split}
 use Rattle.service_model.specs.declared.cert.Cert.{Cert}
 use Rattle.service_model.specs.declared.cert.Item.{Item}
 use Rattle.service_model.specs.declared.cert.Item.TheVariants.{Head as HeadItem, Table as TableItem, Node as NodeItem, Split as SplitItem, End as EndItem}
-use Rattle.service_model.specs.Net.{Net}
 use Rattle.service_model.specs.Items.{split_of, splits_in, split_after, items_from, items_of}
 use Rattle.service_model.specs.Held.{none_held, held_after}
 use Rattle.cert_laws.proofs.KeptFacts.{held_after-end}
-use Rattle.bound_cert.specs.Lines.{line_of}
 use Rattle.bound_cert.specs.Stream.{Reads, start, after_items}
 use Rattle.bound_cert.proofs.WholeFacts.{whole_back}
 use Rattle.cert_check.specs.Faults.{IsChecked}
-use Rattle.cert_check.specs.Bytes.{whole}
 use Rattle.cert_check.specs.Laws.{WrittenLaw}
 
 none_append : (xs ys : List Item) → splits_in xs ≡ [] → splits_in ys ≡ [] → splits_in (xs ++ ys) ≡ []

@@ -1,5 +1,5 @@
 -- The rules on an item that look at nothing but what kinds of items came, and those of its kind.
-use Rattle.std.specs.Prelude.{◌≡◌, ℕ, ◌==◌, Option, Some, None, MatchBool, ⊤}
+use Rattle.std.specs.Prelude.{ℕ, ◌==◌, Option, Some, None, MatchBool, ⊤}
 use Rattle.service_model.specs.declared.cert_rules.TheConstants.{NETWORK}
 use Rattle.service_model.specs.declared.cert.Head.{Head}
 use Rattle.service_model.specs.declared.cert.Item.{Item}

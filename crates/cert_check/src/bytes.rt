@@ -45,11 +45,7 @@ pub(crate) fn refusal(stop: FeedStop, rule: Option<u8>) -> CheckFault
 
 /// The verdict of a certificate for a network, which is true of it, or the first line on which a rule fails, from 1 on,
 /// and the first rule that fails on it. Where the end is missing that is the line behind the last.
-pub fn check_bytes(
-    alloc: Global,
-    network: &Network,
-    bytes: &[u8],
-) -> Result<Verdict, CheckFault>
+pub fn check_bytes(alloc: Global, network: &Network, bytes: &[u8]) -> Result<Verdict, CheckFault>
     requires { length bytes.now ≤ 2 ^ 32 }
     ensures { ChecksBytes network.now bytes.now result }
 {

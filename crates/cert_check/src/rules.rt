@@ -87,12 +87,7 @@ impl<'a> Rules<'a> {
         )
     }
 
-    fn node_fault(
-        &self,
-        alloc: Global,
-        came: &Came,
-        node: &Node,
-    ) -> Result<Option<u8>, NoMemory>
+    fn node_fault(&self, alloc: Global, came: &Came, node: &Node) -> Result<Option<u8>, NoMemory>
         requires kept { (found : Option Plan) × IsKept self.now came.now found }
         requires placed { IsPlaced self.now came.now (NodeItem node.now) }
         ensures { IfOk result (IsFirstOf (NodeRule self.now came.now node.now)) }

@@ -1,11 +1,11 @@
 // A certificate of two stages, by hand: the supplier with lead time 3, and its customer with lead time 2 and no service time.
-use crate::{CheckFault, SPLIT_NOT_YET, check_bytes};
-use bound_cert::CertFault;
+use crate::{CheckFault, SPLIT_NOT_YET, check, check_bytes};
+use bound_cert::{CertFault, CertReader, FeedStop};
 use service_model::cert_rules::{
-    CHILD, CHILD_ARC, FITS, LOCAL, NETWORK, NO_END, PLAN, RELAXED, ROOT, STAGE_TWICE, TABLE,
+    CHILD, CHILD_ARC, FITS, LOCAL, NETWORK, NO_END, PLACE, PLAN, RELAXED, ROOT, STAGE_TWICE, TABLE,
     VERDICT,
 };
-use service_model::{List, Network, NewFault, Outcome, Stage, SupplyArc};
+use service_model::{Cert, Collector, List, Network, NewFault, Outcome, Stage, SupplyArc, Verdict};
 use std::alloc::{AllocError, Global};
 use std::test::Fail;
 
@@ -80,10 +80,27 @@ fn answer(alloc: Global, lines: &[&str]) -> Result<Result<(Outcome, u64), CheckF
     if bytes.len() > LONGEST {
         return Ok(Err(CheckFault::NoMemory));
     }
-    match check_bytes(alloc, &network, &bytes) {
-        Ok(verdict) => Ok(Ok((verdict.outcome, verdict.bound))),
-        Err(fault) => Ok(Err(fault)),
+    Ok(told(check_bytes(alloc, &network, &bytes)))
+}
+
+fn told(checked: Result<Verdict, CheckFault>) -> Result<(Outcome, u64), CheckFault> {
+    match checked {
+        Ok(verdict) => Ok((verdict.outcome, verdict.bound)),
+        Err(fault) => Err(fault),
     }
+}
+
+// The certificate of the lines.
+fn read(alloc: Global) -> Result<Option<Cert>, FeedStop> {
+    let bytes = joined(alloc, &LINES)?;
+    if bytes.len() > LONGEST {
+        return Ok(None);
+    }
+    let mut collector = Collector::new(alloc);
+    let mut reader = CertReader::new(alloc);
+    reader.feed(&bytes, &mut collector, &mut ())?;
+    reader.finish(&mut collector, &mut ())?;
+    Ok(collector.cert())
 }
 
 fn fault(line: u64, rule: u8) -> Result<(Outcome, u64), CheckFault> {
@@ -108,5 +125,23 @@ fn the_first_rule_that_a_forged_line_breaks_is_named(rt: HostRuntime) -> Result<
         }
         assert_eq!(rt; answer(alloc, &lines)?, fault(line, rule), "{text}");
     }
+    Ok(())
+}
+
+#[test]
+fn a_certificate_in_memory_is_checked_by_its_lines(rt: HostRuntime) -> Result<(), Fail> {
+    let alloc = rt.alloc();
+    let network = network(alloc)?;
+    let mut cert = read(alloc)?.ok_or("no certificate")?;
+    assert_eq!(rt;
+        told(check(alloc, &network, &cert)),
+        Ok((Outcome::Optimal, 11))
+    );
+    cert.nodes = List::new(alloc);
+    assert_eq!(rt;
+        told(check(alloc, &network, &cert)),
+        fault(4, PLACE),
+        "the end comes too early"
+    );
     Ok(())
 }

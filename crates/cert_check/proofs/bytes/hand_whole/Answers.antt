@@ -20,5 +20,8 @@ returns-clause-feeds c =
     let place = c.feed.new.self.place in
     let first = subst (λ (r : Reader). r.answer ≡ None → Feeds (reads bytes r.place) (seen c.args.checker.now) (seen c.feed.new.taker) r.place.lines place (Ok tt))
     c.new-reader.ensures c.in_default.ensures.feeds refl in
-    let second = c.finish.ensures.feeds c.in_default.ensures.remembers in
-    (c.finish.new.self.place, goes_on_feeding (reads bytes start) reads_end _ _ _ 0 place _ _ first (reads_count bytes start place first.ends) second)
+    let second = c.finish.ensures.feeds c.in_default.ensures.remembers in (
+      c.finish.new.self.place,
+      goes_on_feeding (reads bytes start) reads_end (seen c.args.checker.now) (seen c.feed.new.taker) (seen c.finish.new.taker) 0 place
+          c.finish.new.self.place c.finish.result first (reads_count bytes start place first.ends) second,
+    )

@@ -4,7 +4,7 @@ use Rattle.service_model.specs.Held.{Held, held_with}
 use Rattle.service_model.specs.Repairs.{better}
 use Rattle.cert_check.specs.Faults.{IsPassed}
 use Rattle.cert_check.specs.Checking.{Checking}
-use Rattle.cert_check.specs.Keeping.{IsKept, FoundIn}
+use Rattle.cert_check.specs.Keeping.{IsKept}
 use Rattle.cert_check.proofs.KeepFacts.{kept_more}
 use Rattle.cert_check.proofs.checker.Checker.keep.Goals as goal
 

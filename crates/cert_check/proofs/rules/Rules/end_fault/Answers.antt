@@ -1,4 +1,4 @@
-use Rattle.std.proofs.Common.{rules, ◌≡◌, ◌<◌, ℕ, List, length, sym, ◌∙◌, subst, arith}
+use Rattle.std.proofs.Common.{◌≡◌, ◌<◌, ℕ, List, length, sym, subst}
 use Rattle.std.specs.Prelude.{All}
 use Rattle.service_model.specs.declared.table.Table.{Table}
 use Rattle.service_model.specs.declared.table.Kind.TheVariants.{Root}

@@ -1,10 +1,10 @@
-use Rattle.std.proofs.Common.{◌≡◌, ◌<◌, ◌≤◌, ◌+◌, ◌/◌, ◌++◌, ◌∷◌, List, length, map, drop, take, get_or, max, Ok, Err, sym, ap, ◌∙◌, subst, arith}
+use Rattle.std.proofs.Common.{◌≡◌, ◌<◌, ◌+◌, ◌/◌, ◌++◌, List, length, map, drop, get_or, max, Ok, Err, sym, ap, ◌∙◌, subst, arith}
 use Rattle.service_model.specs.declared.table.Table.{Table}
 use Rattle.service_model.specs.declared.cert.Node.{Node}
 use Rattle.service_model.specs.declared.cert.Split.{Split}
 use Rattle.service_model.specs.declared.cert.Item.{Item}
-use Rattle.service_model.specs.declared.cert.Item.TheVariants.{Table as TableItem, Node as NodeItem, Split as SplitItem}
-use Rattle.service_model.specs.Items.{split_after, items_from}
+use Rattle.service_model.specs.declared.cert.Item.TheVariants.{Table as TableItem, Split as SplitItem}
+use Rattle.service_model.specs.Items.{items_from}
 use Rattle.cert_check.specs.Walking.{Walks}
 use Rattle.cert_check.proofs.WalkFacts.{walks_then, walks_no_further, node_items, node_items_are, nodes_next, nodes_left}
 use Rattle.cert_check.proofs.walk.Walk.nodes.Goals as goal

@@ -1,4 +1,4 @@
-use Rattle.std.proofs.Common.{◌<◌, [], ◌∷◌, length, Ok, Err, subst, arith}
+use Rattle.std.proofs.Common.{◌<◌, [], ◌∷◌, length, Err, subst, arith}
 use Rattle.service_model.specs.declared.table.Table.{Table}
 use Rattle.service_model.specs.declared.cert.Item.TheVariants.{Table as TableItem}
 use Rattle.cert_check.specs.Walking.{Walks}
