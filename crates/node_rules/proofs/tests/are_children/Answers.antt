@@ -1,4 +1,4 @@
-use Rattle.std.proofs.Common.{ℕ, ◌<◌, ◌≤◌, length, subst, take_all, rules}
+use Rattle.std.proofs.Common.{◌<◌, ◌≤◌, length, subst, take_all, rules}
 use Rattle.std.specs.Prelude.{All}
 use Rattle.std.proofs.lemmas.List.Elements.{All-more}
 use Rattle.service_model.specs.declared.table.Table.{Table}

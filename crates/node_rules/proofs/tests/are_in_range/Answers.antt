@@ -1,4 +1,4 @@
-use Rattle.std.proofs.Common.{◌<◌, length, get_or, subst, sym, take_all}
+use Rattle.std.proofs.Common.{subst, take_all}
 use Rattle.std.specs.Prelude.{All}
 use Rattle.std.proofs.lemmas.List.Elements.{All-more}
 use Rattle.service_model.specs.CertNumbers.{TableInRange}
