@@ -1,9 +1,9 @@
 mod KindFacts
 mod ListFacts
 mod TableFacts
-mod MadeFacts
-mod WholeFacts
-mod TraceFacts
+pub mod MadeFacts
+pub mod WholeFacts
+pub mod TraceFacts
 mod RootFacts
 mod BoundFacts
 mod RelaxedFacts

@@ -1,6 +1,6 @@
 -- What the least cost with arcs left out says of the network's feasible plans.
-use Rattle.std.proofs.Common.{◌≡◌, ℕ, ◌+◌, ◌<◌, ◌≤◌, Bool, true, false, cond, Option, Some, None, List, [], ◌∷◌, length, get_or, map, refl, sym, ap, ◌∙◌, subst, arith}
-use Rattle.std.specs.Prelude.{All, max, ◌==◌, ◌⊎◌, MatchOption}
+use Rattle.std.proofs.Common.{◌≡◌, ℕ, ◌+◌, ◌<◌, ◌≤◌, Bool, true, false, cond, Option, Some, None, List, [], ◌∷◌, length, get_or, subst, arith}
+use Rattle.std.specs.Prelude.{All, max, ◌==◌}
 use Rattle.std.proofs.lemmas.List.{get_or-map, get_or_default}
 use Rattle.std.proofs.lemmas.List.Elements.{All-get_or}
 use Rattle.service_model.specs.declared.limits.TheConstants.{INF}
@@ -8,8 +8,8 @@ use Rattle.service_model.specs.declared.stage.Stage.{Stage}
 use Rattle.service_model.specs.declared.stage.SupplyArc.{SupplyArc}
 use Rattle.service_model.specs.declared.plan.Plan.{Plan}
 use Rattle.service_model.specs.declared.range.Range.{Range}
-use Rattle.service_model.specs.Net.{Net, stage_at, no_stage, no_arc, arc_in}
-use Rattle.service_model.specs.Plans.{Feasible, Least, Empty, Meets, inbound_at, outbound_at, stage_cost, cost_of}
+use Rattle.service_model.specs.Net.{Net, stage_at, no_stage, no_arc}
+use Rattle.service_model.specs.Plans.{Feasible, Meets, inbound_at, outbound_at, stage_cost, cost_of}
 use Rattle.service_model.specs.Faults.{IsNetwork}
 use Rattle.service_model.specs.Ranges.{whole_of, IsIn, latest_start}
 use Rattle.service_model.specs.Forests.{IsKept}
@@ -63,7 +63,7 @@ raised_ge : (leads : Bool) (x y z : ℕ) → z ≤ y → z ≤ cond leads (max x
 raised_ge true x y z le = omega arith
 raised_ge false x y z le = le
 
-latest_ge : (arcs : List SupplyArc) (starts : List ℕ) (j start : ℕ) → start ≤ latest_start arcs starts j start
+pub latest_ge : (arcs : List SupplyArc) (starts : List ℕ) (j start : ℕ) → start ≤ latest_start arcs starts j start
 latest_ge [] starts j start = omega arith
 latest_ge (a ∷ arcs) starts j start =
     raised_ge (a.customer == j) (get_or starts a.supplier 0 + a.transit) (latest_start arcs starts j start) start (latest_ge arcs starts j start)

@@ -1,8 +1,8 @@
 -- The tables of all stages make a whole node.
-use Rattle.std.proofs.Common.{◌≡◌, ◌≢◌, ℕ, zero, suc, ◌+◌, ◌<◌, ◌≤◌, List, [], ◌∷◌, length, get_or, map, refl, sym, ap, ◌∙◌, subst, arith}
-use Rattle.std.specs.Prelude.{All, AllPairs, Contains}
+use Rattle.std.proofs.Common.{◌≡◌, ◌≢◌, ℕ, zero, suc, ◌+◌, ◌<◌, List, [], ◌∷◌, length, get_or, map, refl, sym, ap, ◌∙◌, subst, arith}
+use Rattle.std.specs.Prelude.{AllPairs, Contains}
 use Rattle.std.specs.List.{flat_map, AllByRecursion}
-use Rattle.std.proofs.lemmas.List.Elements.{All-map, All-from_recursion}
+use Rattle.std.proofs.lemmas.List.Elements.{All-from_recursion}
 use Rattle.service_model.specs.declared.stage.SupplyArc.{SupplyArc}
 use Rattle.service_model.specs.declared.range.Range.{Range}
 use Rattle.service_model.specs.declared.table.Kind.{Kind}
@@ -23,23 +23,35 @@ use Rattle.arc_relax.specs.StageTables.{HaveTables, root_numbers}
 use Rattle.arc_relax.proofs.ListFacts.{each_member, map-flat_map}
 use Rattle.arc_relax.proofs.TableFacts.{child_stage}
 
--- the tables at and below a stage's are tight
-tight_within : (n : Net) (r : Range) (f : Forest) (tables : List Table) (numbers : List ℕ) → IsForest (length n.stages) n.arcs f → HaveTables n r f tables numbers
-    → (steps j : ℕ) → j < length n.stages → AllByRecursion (IsTightAt n tables) (below_within steps tables (get_or numbers j 0))
-tight_within n r f tables numbers forest has zero j low = tt
-tight_within n r f tables numbers forest has (suc steps) j low =
-    let here = has j low in (
-      here.tight,
-      subst (λ (cs : List ℕ). AllByRecursion (IsTightAt n tables) (flat_map (below_within steps tables) cs)) (sym here.own.children)
-          (all_concat (IsTightAt n tables) (below_within steps tables) (map (λ c. get_or numbers c 0) (get_or f.children j []))
-          (all_map (λ k. AllByRecursion (IsTightAt n tables) (below_within steps tables k)) (λ c. get_or numbers c 0) (get_or f.children j [])
-          (each_member (λ c. AllByRecursion (IsTightAt n tables) (below_within steps tables (get_or numbers c 0))) (get_or f.children j [])
-          (λ c inside. tight_within n r f tables numbers forest has steps c (child_stage (length n.stages) n.arcs f forest j c low inside))))),
-    )
+-- what holds of each stage's table holds of all tables at and below it
+pub each_within : (n : Net) (r : Range) (f : Forest) (tables : List Table) (numbers : List ℕ) (P : ℕ → Type 0) → IsForest (length n.stages) n.arcs f
+    → HaveTables n r f tables numbers → ((j : ℕ) → j < length n.stages → P (get_or numbers j 0))
+    → (steps j : ℕ) → j < length n.stages → AllByRecursion P (below_within steps tables (get_or numbers j 0))
+each_within n r f tables numbers P forest has holds zero j low = tt
+each_within n r f tables numbers P forest has holds (suc steps) j low = (
+  holds j low,
+  subst (λ (cs : List ℕ). AllByRecursion P (flat_map (below_within steps tables) cs)) (sym (has j low).own.children)
+      (all_concat P (below_within steps tables) (map (λ c. get_or numbers c 0) (get_or f.children j []))
+      (all_map (λ k. AllByRecursion P (below_within steps tables k)) (λ c. get_or numbers c 0) (get_or f.children j [])
+      (each_member (λ c. AllByRecursion P (below_within steps tables (get_or numbers c 0))) (get_or f.children j [])
+      (λ c inside. each_within n r f tables numbers P forest has holds steps c (child_stage (length n.stages) n.arcs f forest j c low inside))))),
+)
 
+-- and of all tables at and below the roots
+pub each_below_root : (n : Net) (r : Range) (f : Forest) (tables : List Table) (numbers : List ℕ) (P : ℕ → Type 0) → IsForest (length n.stages) n.arcs f
+    → HaveTables n r f tables numbers → ((j : ℕ) → j < length n.stages → P (get_or numbers j 0))
+    → AllByRecursion (λ k. AllByRecursion P (below tables k)) (root_numbers f numbers)
+each_below_root n r f tables numbers P forest has holds =
+    all_map (λ k. AllByRecursion P (below tables k)) (λ j. get_or numbers j 0) (roots_of f)
+    (each_member (λ j. AllByRecursion P (below tables (get_or numbers j 0))) (roots_of f)
+    (λ j inside.
+    each_within n r f tables numbers P forest has holds (suc (get_or numbers j 0)) j (root_in_list (length n.stages) n.arcs f forest j inside).0))
+
+-- the tables at and below a stage's are tight
 pub tight_below : (n : Net) (r : Range) (f : Forest) (tables : List Table) (numbers : List ℕ) → IsForest (length n.stages) n.arcs f → HaveTables n r f tables numbers
     → (j : ℕ) → j < length n.stages → AreTightBelow n tables (get_or numbers j 0)
-tight_below n r f tables numbers forest has j low = tight_within n r f tables numbers forest has (suc (get_or numbers j 0)) j low
+tight_below n r f tables numbers forest has j low =
+    each_within n r f tables numbers (IsTightAt n tables) forest has (λ i within. (has i within).tight) (suc (get_or numbers j 0)) j low
 
 pub earlier_below : (n : Net) (tables : List Table) (i : ℕ) → AreTightBelow n tables i → AllByRecursion (HasEarlier tables) (below tables i)
 earlier_below n tables i tight =
@@ -87,9 +99,7 @@ stages_all n r f tables numbers forest has =
 pub tight_roots : (n : Net) (r : Range) (f : Forest) (tables : List Table) (numbers : List ℕ) → IsForest (length n.stages) n.arcs f → HaveTables n r f tables numbers
     → AllByRecursion (AreTightBelow n tables) (root_numbers f numbers)
 tight_roots n r f tables numbers forest has =
-    all_map (AreTightBelow n tables) (λ j. get_or numbers j 0) (roots_of f)
-    (each_member (λ j. AreTightBelow n tables (get_or numbers j 0)) (roots_of f)
-    (λ j inside. tight_below n r f tables numbers forest has j (root_in_list (length n.stages) n.arcs f forest j inside).0))
+    each_below_root n r f tables numbers (IsTightAt n tables) forest has (λ j low. (has j low).tight)
 
 pub whole_node : (n : Net) (r : Range) (f : Forest) (tables : List Table) (numbers : List ℕ) → IsForest (length n.stages) n.arcs f → HaveTables n r f tables numbers
     → IsWhole n tables (root_numbers f numbers)

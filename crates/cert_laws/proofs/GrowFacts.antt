@@ -16,7 +16,7 @@ use Rattle.gsm_laws.proofs.BelowFacts.{sound_everywhere}
 use Rattle.cert_laws.specs.Laws.{TableMoreLaw, NodeStaysLaw}
 
 -- both lists have the same tables at these numbers
-abbrev Agree : List Table → List Table → List ℕ → Type 0
+abbrev pub Agree : List Table → List Table → List ℕ → Type 0
 Agree xs ys cs = AllByRecursion (λ c. table_at xs c ≡ table_at ys c) cs
 
 agree_more : (tables more : List Table) (cs : List ℕ) → AllByRecursion (λ c. c < length tables) cs → Agree tables (tables ++ more) cs
@@ -34,11 +34,11 @@ sums_agree n xs ys t inbound outbound (c ∷ cs) agree =
     let split' = sum_by-cons (λ d. least_below n t inbound outbound (table_at ys d)) c cs in
     omega (arith, rest, first, split, split')
 
-local_agree : (n : Net) (xs ys : List Table) (t : Table) → Agree xs ys t.children → Local n xs t → Local n ys t
+pub local_agree : (n : Net) (xs ys : List Table) (t : Table) → Agree xs ys t.children → Local n xs t → Local n ys t
 local_agree n xs ys t agree local inbound outbound covers =
     omega (arith, local inbound outbound covers, sums_agree n xs ys t inbound outbound t.children agree)
 
-children_agree : (n : Net) (xs ys : List Table) (j : ℕ) (cs : List ℕ) → Agree xs ys cs
+pub children_agree : (n : Net) (xs ys : List Table) (j : ℕ) (cs : List ℕ) → Agree xs ys cs
     → All (λ c. IsChild (table_at xs c).kind n.arcs (table_at xs c).stage j) cs → All (λ c. IsChild (table_at ys c).kind n.arcs (table_at ys c).stage j) cs
 children_agree n xs ys j cs agree children =
     All-from_recursion (λ c. IsChild (table_at ys c).kind n.arcs (table_at ys c).stage j) cs
@@ -103,7 +103,7 @@ table_more_law n tables t sound table earlier children local =
     }
 
 -- ---- nodes
-below_grown : (n : Net) (tables more : List Table) → Sound n tables → (steps i : ℕ) → i < length tables
+pub below_grown : (n : Net) (tables more : List Table) → Sound n tables → (steps i : ℕ) → i < length tables
     → below_within steps (tables ++ more) i ≡ below_within steps tables i
 below_grown n tables more sound zero i within = refl
 below_grown n tables more sound (suc steps) i within =
@@ -113,14 +113,14 @@ below_grown n tables more sound (suc steps) i within =
     (table_at tables i).children (recursion_from_All (λ c. c < i) (table_at tables i).children (sound.shaped i within).earlier) in
     ap (λ (x : Table). i ∷ flat_map (below_within steps (tables ++ more)) x.children) old ∙ ap (λ (ks : List ℕ). i ∷ ks) (flat_map_same _ _ _ same)
 
-below_there : (n : Net) (tables : List Table) (roots : List ℕ) → Sound n tables → AllByRecursion (λ k. k < length tables) roots
+pub below_there : (n : Net) (tables : List Table) (roots : List ℕ) → Sound n tables → AllByRecursion (λ k. k < length tables) roots
     → AllByRecursion (λ k. k < length tables) (below_roots tables roots)
 below_there n tables roots sound there =
     all_concat (λ k. k < length tables) (below tables) roots
     (each (λ k. k < length tables) (λ k. AllByRecursion (λ i. i < length tables) (below tables k))
     (λ k within. each (IsSoundAt n tables) (λ i. i < length tables) (λ i at. at.there) (below tables k) (sound_everywhere n tables k sound within)) roots there)
 
-map_agree : (f g : ℕ → ℕ) (ks : List ℕ) → AllByRecursion (λ k. f k ≡ g k) ks → map f ks ≡ map g ks
+pub map_agree : (f g : ℕ → ℕ) (ks : List ℕ) → AllByRecursion (λ k. f k ≡ g k) ks → map f ks ≡ map g ks
 map_agree f g [] same = refl
 map_agree f g (k ∷ ks) same = let rest = map_agree f g ks same.1 in let first = same.0 in cc
 

@@ -17,7 +17,7 @@ use Rattle.service_model.specs.Earned.{IsNext, IsRelaxedAt, BreaksArc}
 use Rattle.cert_laws.proofs.CutFacts.{ranges_long}
 use Rattle.cert_laws.proofs.FloorFacts.{floor_ge}
 
-ends_there : (n : Net) (i j : ℕ) → HasEnds (length n.stages) n.arcs → Supplies n.arcs i j → (i < length n.stages) × (j < length n.stages)
+pub ends_there : (n : Net) (i j : ℕ) → HasEnds (length n.stages) n.arcs → Supplies n.arcs i j → (i < length n.stages) × (j < length n.stages)
 ends_there n i j ends (k, b, within, is, (from, to)) =
     let there = ends k b within in
     let supplier = ap (λ (a : SupplyArc). a.supplier) is in

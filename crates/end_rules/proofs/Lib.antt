@@ -1,0 +1,7 @@
+mod StepFacts
+mod TimeFacts
+mod InputFacts
+mod ShiftFacts
+mod CandidateFacts
+mod FoundFacts
+mod VerdictFacts

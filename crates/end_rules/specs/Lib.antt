@@ -1,0 +1,4 @@
+pub mod Inputs
+pub mod Times
+pub mod Candidates
+pub mod Shifts

@@ -1,0 +1,6 @@
+mod StepFacts
+mod TimeFacts
+mod InputFacts
+mod ShiftFacts
+mod CandidateFacts
+mod FoundFacts

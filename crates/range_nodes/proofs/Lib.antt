@@ -1,0 +1,11 @@
+mod BackFacts
+mod FrontFacts
+mod FloorFacts
+mod SizeFacts
+mod RiseFacts
+mod NodeFacts
+mod MadeFacts
+pub mod StayFacts
+pub mod TableFacts
+pub mod RuleFacts
+pub mod PlanFacts
