@@ -1,16 +1,13 @@
 -- The bound of the roots' tables is the least cost of the plans of the range that meet the kept arcs.
-use Rattle.std.proofs.Common.{◌≡◌, ℕ, ◌+◌, ◌<◌, ◌≤◌, Option, Some, None, List, length, inl, inr, ⊎_elim, arith}
-use Rattle.std.specs.Prelude.{MatchOption, ◌⊎◌}
+use Rattle.std.proofs.Common.{ℕ, List, length, inl, inr, ⊎_elim, arith}
 use Rattle.std.proofs.lemmas.Bool.{cases_lt}
 use Rattle.service_model.specs.declared.limits.TheConstants.{INF}
-use Rattle.service_model.specs.declared.plan.Plan.{Plan}
 use Rattle.service_model.specs.declared.range.Range.{Range}
 use Rattle.service_model.specs.declared.table.Table.{Table}
 use Rattle.service_model.specs.Net.{Net}
-use Rattle.service_model.specs.Plans.{HasTimes, cost_of}
 use Rattle.service_model.specs.Faults.{IsNetwork}
 use Rattle.service_model.specs.Nodes.{bound_of}
-use Rattle.service_model.specs.Relaxed.{IsRelaxedPlan, IsRelaxedLeast}
+use Rattle.service_model.specs.Relaxed.{IsRelaxedLeast}
 use Rattle.tree_order.specs.declared.forest.Forest.{Forest}
 use Rattle.tree_order.specs.Forest.{IsForest}
 use Rattle.gsm_laws.proofs.WholeFacts.{whole_law}

@@ -1,6 +1,6 @@
 -- From no table on, one table is filled for each stage.
-use Rattle.std.proofs.Common.{◌≡◌, ◌≢◌, ℕ, suc, ◌+◌, ◌<◌, ◌≤◌, List, [], ◌∷◌, true, length, get_or, map, eqb, refl, sym, ap, subst, ◌∙◌, arith}
-use Rattle.std.specs.List.{Contains, IsDistinct, range_with_len, list_any}
+use Rattle.std.proofs.Common.{◌≡◌, ◌≢◌, ℕ, suc, ◌<◌, ◌≤◌, List, [], ◌∷◌, true, length, get_or, map, eqb, sym, ap, subst, ◌∙◌, arith}
+use Rattle.std.specs.List.{IsDistinct, range_with_len, list_any}
 use Rattle.std.proofs.lemmas.List.{length-map, get_or_default}
 use Rattle.std.proofs.lemmas.List.Elements.{recursion_from_All}
 use Rattle.std.proofs.lemmas.List.FromFn.{get_or-map-range_with_len, length-range_with_len}
@@ -13,9 +13,7 @@ use Rattle.service_model.specs.declared.table.Table.{Table}
 use Rattle.service_model.specs.Net.{Net}
 use Rattle.service_model.specs.Tables.{table_at}
 use Rattle.tree_order.specs.declared.forest.Forest.{Forest}
-use Rattle.arc_relax.specs.declared.relaxed.Relaxed.{Relaxed}
 use Rattle.arc_relax.specs.StageTables.{HaveTables}
-use Rattle.arc_relax.specs.Relaxations.{IsRelaxed}
 use Rattle.arc_relax.specs.Counts.{StepLaw}
 
 distinct_from : (xs : List ℕ) → ((i j : ℕ) → i < j → j < length xs → get_or xs i 0 ≢ get_or xs j 0) → IsDistinct eqb xs

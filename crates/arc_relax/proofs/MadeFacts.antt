@@ -1,28 +1,26 @@
 -- The tables of the stages, made along the forest's order.
-use Rattle.std.proofs.Common.{◌≡◌, ◌≢◌, ℕ, zero, suc, ◌+◌, ◌-◌, ◌<◌, ◌≤◌, Result, Ok, Err, List, [], ◌∷◌, ◌++◌, length, get_or, set, map, refl, sym, ap, ◌∙◌, subst, inl, inr, ⊎_elim, append_assoc, arith}
+use Rattle.std.proofs.Common.{◌≡◌, ◌≢◌, ℕ, ◌+◌, ◌<◌, ◌≤◌, Result, Ok, Err, List, [], ◌∷◌, ◌++◌, length, get_or, set, map, refl, sym, ap, ◌∙◌, subst, inl, inr, ⊎_elim, append_assoc, arith}
 use Rattle.std.specs.Prelude.{All, Contains, ◌⊎◌}
 use Rattle.std.specs.List.{AllByRecursion}
 use Rattle.std.specs.Result.{OnErr}
 use Rattle.std.proofs.lemmas.Bool.{cases_lt}
-use Rattle.std.proofs.lemmas.List.{append-nil, get_or_append_left, length_push, length-set, get_or-set_same, get_or-set_other, get_or-map, get_or_default}
+use Rattle.std.proofs.lemmas.List.{append-nil, get_or_append_left, length_push, length-set, get_or-set_same, get_or-set_other, get_or_default}
 use Rattle.std.proofs.lemmas.List.Elements.{All-map, All-from_recursion}
 use Rattle.service_model.specs.declared.range.Range.{Range}
-use Rattle.service_model.specs.declared.table.Kind.{Kind}
 use Rattle.service_model.specs.declared.table.Table.{Table}
 use Rattle.service_model.specs.Net.{Net}
-use Rattle.service_model.specs.Ranges.{HasIntervals, floor_of}
+use Rattle.service_model.specs.Ranges.{HasIntervals}
 use Rattle.service_model.specs.Tables.{table_at, no_table, IsChild, IsSized}
 use Rattle.service_model.specs.Nodes.{IsTightAt}
-use Rattle.service_model.specs.Forests.{IsChildOf}
 use Rattle.service_model.specs.Relaxed.{IsKindOf, IsTableOf}
 use Rattle.tree_order.specs.declared.forest.Forest.{Forest}
 use Rattle.tree_order.specs.Forest.{IsForest}
 use Rattle.tree_order.proofs.ForestLaws.{order_each, each_long, children_first}
 use Rattle.tree_tables.specs.declared.wanted.Wanted.{Wanted}
-use Rattle.tree_tables.specs.Fills.{AreChildren, IsWanted, IsAsWanted}
+use Rattle.tree_tables.specs.Fills.{IsWanted, IsAsWanted}
 use Rattle.tree_tables.proofs.FillLaws.{tight_at_grown}
-use Rattle.table_pool.specs.Pools.{IsPool, IsFoundOrFilled, IsUnchanged}
-use Rattle.arc_relax.specs.StageTables.{HasTable, HaveTables, IsWantedOf, IsLonger, AreMade, IsGrown}
+use Rattle.table_pool.specs.Pools.{IsFoundOrFilled, IsUnchanged}
+use Rattle.arc_relax.specs.StageTables.{HasTable, IsWantedOf, IsLonger, AreMade, IsGrown}
 use Rattle.arc_relax.proofs.ListFacts.{each_member}
 use Rattle.arc_relax.proofs.TableFacts.{child_stage, child_own, kind_child}
 

@@ -1,6 +1,6 @@
 -- What the least cost with arcs left out says of the network's feasible plans.
-use Rattle.std.proofs.Common.{◌≡◌, ℕ, ◌+◌, ◌<◌, ◌≤◌, Bool, true, false, cond, Option, Some, None, List, [], ◌∷◌, length, get_or, map, refl, sym, ap, ◌∙◌, subst, arith}
-use Rattle.std.specs.Prelude.{All, max, ◌==◌, ◌⊎◌, MatchOption}
+use Rattle.std.proofs.Common.{◌≡◌, ℕ, ◌+◌, ◌<◌, ◌≤◌, Bool, true, false, cond, Option, Some, None, List, [], ◌∷◌, length, get_or, subst, arith}
+use Rattle.std.specs.Prelude.{All, max, ◌==◌}
 use Rattle.std.proofs.lemmas.List.{get_or-map, get_or_default}
 use Rattle.std.proofs.lemmas.List.Elements.{All-get_or}
 use Rattle.service_model.specs.declared.limits.TheConstants.{INF}
@@ -8,8 +8,8 @@ use Rattle.service_model.specs.declared.stage.Stage.{Stage}
 use Rattle.service_model.specs.declared.stage.SupplyArc.{SupplyArc}
 use Rattle.service_model.specs.declared.plan.Plan.{Plan}
 use Rattle.service_model.specs.declared.range.Range.{Range}
-use Rattle.service_model.specs.Net.{Net, stage_at, no_stage, no_arc, arc_in}
-use Rattle.service_model.specs.Plans.{Feasible, Least, Empty, Meets, inbound_at, outbound_at, stage_cost, cost_of}
+use Rattle.service_model.specs.Net.{Net, stage_at, no_stage, no_arc}
+use Rattle.service_model.specs.Plans.{Feasible, Meets, inbound_at, outbound_at, stage_cost, cost_of}
 use Rattle.service_model.specs.Faults.{IsNetwork}
 use Rattle.service_model.specs.Ranges.{whole_of, IsIn, latest_start}
 use Rattle.service_model.specs.Forests.{IsKept}

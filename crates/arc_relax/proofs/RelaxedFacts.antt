@@ -1,5 +1,5 @@
 -- What relaxing a range gives, from the tables of all stages and what is read from the roots'.
-use Rattle.std.proofs.Common.{◌≡◌, ℕ, ◌+◌, ◌<◌, ◌≤◌, ◌==◌, Option, Some, None, List, length, get_or, map, sym, ap, ◌∙◌, subst, arith}
+use Rattle.std.proofs.Common.{◌≡◌, ℕ, ◌==◌, Option, Some, None, List, length, get_or, map, sym, ap, ◌∙◌, subst, arith}
 use Rattle.std.specs.Prelude.{MatchOption, filter}
 use Rattle.std.proofs.lemmas.List.{get_or_default}
 use Rattle.service_model.specs.declared.limits.TheConstants.{INF}
@@ -15,7 +15,7 @@ use Rattle.tree_order.specs.Forest.{IsForest, roots_of}
 use Rattle.tree_order.proofs.ForestLaws.{order_each}
 use Rattle.gsm_laws.specs.Traces.{IsTracedNode, IsWhole}
 use Rattle.arc_relax.specs.declared.relaxed.Relaxed.{Relaxed}
-use Rattle.arc_relax.specs.StageTables.{HasTable, HaveTables, root_numbers, AreMade, IsGrown}
+use Rattle.arc_relax.specs.StageTables.{HasTable, HaveTables, root_numbers, AreMade}
 use Rattle.arc_relax.specs.Laws.{HasPlan}
 use Rattle.arc_relax.specs.Relaxations.{IsTracedPlan, IsRead, IsRelaxed}
 use Rattle.arc_relax.proofs.MadeFacts.{order_long}

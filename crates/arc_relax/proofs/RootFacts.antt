@@ -2,9 +2,9 @@
 use Rattle.std.proofs.Common.{◌≡◌, ◌≢◌, ℕ, zero, suc, ◌+◌, ◌<◌, ◌≤◌, ◌==◌, Bool, true, false, cond, List, [], ◌∷◌, ◌++◌, length, get_or, map, take, drop, refl, sym, ap, ◌∙◌, subst, ⊎_elim, arith}
 use Rattle.std.specs.Prelude.{All, filter, sum_by}
 use Rattle.std.specs.List.{flat_map, AllByRecursion}
-use Rattle.std.proofs.lemmas.List.{append-nil, length-map, map-append, take-append-drop, take_all, take_more}
+use Rattle.std.proofs.lemmas.List.{append-nil, map-append, take-append-drop, take_all, take_more}
 use Rattle.std.proofs.lemmas.List.Concat.{flat_map-append}
-use Rattle.std.proofs.lemmas.List.Elements.{All-from_recursion, All-get_or, filter_more, recursion_from_All}
+use Rattle.std.proofs.lemmas.List.Elements.{All-from_recursion, All-get_or, filter_more}
 use Rattle.std.proofs.lemmas.List.Sums.{sum_by-append, sum_by-cons}
 use Rattle.service_model.specs.declared.limits.TheConstants.{INF}
 use Rattle.service_model.specs.declared.plan.Plan.{Plan}
@@ -15,7 +15,7 @@ use Rattle.service_model.specs.Net.{Net}
 use Rattle.service_model.specs.Plans.{HasTimes, stage_cost}
 use Rattle.service_model.specs.Tables.{table_at, width}
 use Rattle.service_model.specs.Nodes.{below, below_roots, bound_of, IsOnce, IsTightAt, AreSoundBelow, AreTightBelow}
-use Rattle.gsm_laws.specs.Traces.{IsAbsent, SameAt, IsTraced, IsTracedNode, IsTraceOf, IsWhole, cost_at}
+use Rattle.gsm_laws.specs.Traces.{IsAbsent, SameAt, IsTraced, IsTracedNode, IsTraceOf, IsWhole}
 use Rattle.gsm_laws.proofs.ElementFacts.{each, all_append, all_both}
 use Rattle.gsm_laws.proofs.BelowFacts.{itself, sound_below}
 use Rattle.gsm_laws.proofs.AgreeFacts.{Apart, apart_append, apart_from_once, once_from_apart, same_sum, same_traced}

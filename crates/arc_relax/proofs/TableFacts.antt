@@ -1,5 +1,5 @@
 -- The tables of stages, and plans within them.
-use Rattle.std.proofs.Common.{◌≡◌, ℕ, ◌+◌, ◌<◌, ◌≤◌, List, [], length, get_or, map, sym, ap, ◌∙◌, subst, inl, inr, ⊎_elim, arith}
+use Rattle.std.proofs.Common.{◌≡◌, ℕ, ◌+◌, ◌<◌, ◌≤◌, List, [], length, get_or, sym, ap, ◌∙◌, subst, inl, inr, ⊎_elim, arith}
 use Rattle.std.specs.Prelude.{Contains, ◌⊎◌}
 use Rattle.std.proofs.lemmas.List.Elements.{All-contains}
 use Rattle.service_model.specs.declared.limits.TheConstants.{INF}
@@ -13,7 +13,6 @@ use Rattle.service_model.specs.Net.{Net, arc_in}
 use Rattle.service_model.specs.Plans.{Meets, inbound_at, outbound_at, stage_cost}
 use Rattle.service_model.specs.Walks.{Leads}
 use Rattle.service_model.specs.Faults.{IsNetwork}
-use Rattle.service_model.specs.Ranges.{floor_of}
 use Rattle.service_model.specs.Tables.{transit_in, IsChild}
 use Rattle.service_model.specs.Nodes.{Holds, MeetsChild}
 use Rattle.service_model.specs.Forests.{IsChildOf, IsKept}

@@ -1,10 +1,7 @@
 -- The plans within the tables of all stages are the plans of the range that meet the kept arcs.
-use Rattle.std.proofs.Common.{◌≡◌, ℕ, zero, suc, ◌+◌, ◌<◌, ◌≤◌, List, [], length, get_or, map, reverse, refl, sym, ap, ◌∙◌, subst, inl, inr, ⊎_elim, arith}
-use Rattle.std.specs.Prelude.{Contains, ◌⊎◌}
+use Rattle.std.proofs.Common.{◌≡◌, ℕ, zero, suc, ◌+◌, ◌<◌, ◌≤◌, List, [], length, get_or, reverse, refl, sym, ap, subst, ⊎_elim, arith}
 use Rattle.std.specs.List.{AllByRecursion}
-use Rattle.std.proofs.lemmas.Bool.{cases_eq}
 use Rattle.service_model.specs.declared.limits.TheConstants.{INF}
-use Rattle.service_model.specs.declared.stage.SupplyArc.{SupplyArc}
 use Rattle.service_model.specs.declared.plan.Plan.{Plan}
 use Rattle.service_model.specs.declared.range.Range.{Range}
 use Rattle.service_model.specs.declared.table.Kind.{Kind}
@@ -15,7 +12,7 @@ use Rattle.service_model.specs.Plans.{HasTimes, Meets, inbound_at, outbound_at, 
 use Rattle.service_model.specs.Walks.{Leads}
 use Rattle.service_model.specs.Faults.{IsNetwork}
 use Rattle.service_model.specs.Tables.{table_at, transit_in}
-use Rattle.service_model.specs.Nodes.{AreTightBelow, MeetsChild}
+use Rattle.service_model.specs.Nodes.{MeetsChild}
 use Rattle.service_model.specs.Forests.{IsChildOf, IsKept}
 use Rattle.service_model.specs.Relaxed.{IsRelaxedPlan, IsKindOf}
 use Rattle.service_model.proofs.ArcFacts.{transit_in-arc}
@@ -27,7 +24,7 @@ use Rattle.tree_order.proofs.BelowLaws.{root_in_list, list_has_root}
 use Rattle.gsm_laws.specs.Traces.{TracedWithin, IsTraced, IsTracedNode}
 use Rattle.gsm_laws.proofs.ElementFacts.{all_map}
 use Rattle.gsm_laws.proofs.PartFacts.{traced_parts}
-use Rattle.arc_relax.specs.StageTables.{HasTable, HaveTables, root_numbers}
+use Rattle.arc_relax.specs.StageTables.{HaveTables, root_numbers}
 use Rattle.arc_relax.proofs.ListFacts.{each_member, of_number}
 use Rattle.arc_relax.proofs.TableFacts.{child_stage, child_own, child_met, holds_from_fits, fits_from_holds}
 use Rattle.arc_relax.proofs.WholeFacts.{tight_below, earlier_below}

@@ -1,7 +1,7 @@
 -- The line of an item reads back as the item.
-use Rattle.std.proofs.Common.{◌≡◌, ℕ, suc, ◌^◌, ◌<◌, ◌≤◌, List, [], ◌∷◌, map, All, IfSome, Option, Some, None, Result, Ok, Err, refl, arith, le-leb, get_or, codes}
+use Rattle.std.proofs.Common.{◌≡◌, ℕ, suc, ◌^◌, ◌<◌, ◌≤◌, List, [], ◌∷◌, map, All, IfSome, Option, Some, None, Ok, refl, arith, le-leb, codes}
 use Rattle.json.specs.Print.{escape_byte, quoted}
-use Rattle.serde_json.specs.Data.{Data, Items, no_items, item}
+use Rattle.serde_json.specs.Data.{Items, no_items, item}
 use Rattle.serde_json.specs.View.{items_of}
 use Rattle.service_model.specs.declared.limits.TheConstants.{INF, MAX_TIME}
 use Rattle.service_model.specs.declared.cert_rules.TheConstants.{MAX_NUMBER, MAX_BUDGET}
@@ -14,8 +14,7 @@ use Rattle.service_model.specs.declared.cert.Item.{Item}
 use Rattle.service_model.specs.declared.cert.Item.TheVariants.{Head as HeadItem, Table as TableItem, Node as NodeItem, Split as SplitItem, End as EndItem}
 use Rattle.service_model.specs.CertNumbers.{PlanInRange, InRange}
 use Rattle.bound_cert.specs.declared.limits.TheConstants.{FORMAT}
-use Rattle.bound_cert.specs.Lines.{whole, wholes, kind_number, outcome_number, plan_data, data_of, text_of}
-use Rattle.bound_cert.specs.Refusals.{◌>>=◌}
+use Rattle.bound_cert.specs.Lines.{whole, wholes, kind_number, outcome_number, plan_data, data_of}
 use Rattle.bound_cert.specs.Fields.{whole_in, kind_in, outcome_in, tag_in, field, wholes_among, wholes_in, plan_among, plan_in}
 use Rattle.bound_cert.specs.Reading.{head_among, limits_among, lists_among, table_among, node_among, split_among, end_among, line_in, line_from}
 use Rattle.bound_cert.specs.Order.{HasSeen, line_with}

@@ -1,7 +1,7 @@
 -- Items handed to a taker, step by step.
-use Rattle.std.proofs.Common.{◌≡◌, ◌≤◌, ℕ, ◌+◌, length, List, [], ◌∷◌, ◌++◌, Result, Ok, Err, refl, sym, ap, ◌∙◌, subst, arith, append_assoc, append-nil, length-append}
+use Rattle.std.proofs.Common.{◌≡◌, ℕ, ◌+◌, length, List, [], ◌∷◌, ◌++◌, Result, Ok, Err, refl, sym, ap, ◌∙◌, subst, arith, append_assoc, append-nil}
 use Rattle.service_model.specs.declared.cert.Item.{Item}
-use Rattle.service_model.specs.Takers.{Rose, TakerState, StopsAt, Hands}
+use Rattle.service_model.specs.Takers.{Rose, TakerState}
 use Rattle.bound_cert.specs.declared.fault.CertFault.{CertFault}
 use Rattle.bound_cert.specs.declared.fault.FeedStop.{FeedStop}
 use Rattle.bound_cert.specs.declared.fault.FeedStop.TheVariants.{Fault, Stopped, NoMemory}

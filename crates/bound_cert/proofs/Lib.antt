@@ -8,3 +8,7 @@ pub mod BackFacts
 pub mod OrderFacts
 pub mod StreamFacts
 pub mod WholeFacts
+pub mod ShortFacts
+pub mod SeenFacts
+mod BrokenFacts
+mod ItemsFacts

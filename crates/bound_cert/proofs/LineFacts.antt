@@ -1,12 +1,11 @@
 -- An item's value has no float.
-use Rattle.std.proofs.Common.{◌≡◌, ℕ, List, [], ◌∷◌, map, Bool, false, ◌||◌, Option, Some, None, refl, ap, ◌∙◌}
-use Rattle.serde_json.specs.Data.{Data}
+use Rattle.std.proofs.Common.{◌≡◌, ℕ, List, [], ◌∷◌, map, false, Option, Some, None, refl}
 use Rattle.serde_json.specs.View.{items_of}
 use Rattle.serde_json.specs.Written.{has_float, items_have_float}
 use Rattle.service_model.specs.declared.plan.Plan.{Plan}
 use Rattle.service_model.specs.declared.cert.Item.{Item}
 use Rattle.service_model.specs.declared.cert.Item.TheVariants.{Head as HeadItem, Table as TableItem, Node as NodeItem, Split as SplitItem, End as EndItem}
-use Rattle.bound_cert.specs.Lines.{whole, wholes, plan_data, data_of}
+use Rattle.bound_cert.specs.Lines.{whole, plan_data, data_of}
 
 no_float_in : (ns : List ℕ) → items_have_float (items_of (map whole ns)) ≡ false
 no_float_in [] = refl

@@ -1,42 +1,41 @@
 -- Items in order, and the places that count them.
-use Rattle.std.proofs.Common.{◌≡◌, ℕ, ◌+◌, ◌*◌, ◌==◌, nat_lt, nat_le, not, length, List, [], ◌∷◌, ◌++◌, Bool, true, false, if◌then◌else◌, Option, Some, None, is_none, is_some, Result, Ok, Err, IfOk, refl, sym, ap, ◌∙◌, subst, arith, length-append, ne_eqb}
+use Rattle.std.proofs.Common.{◌≡◌, ℕ, ◌+◌, ◌==◌, nat_lt, not, length, List, [], ◌∷◌, ◌++◌, Bool, true, false, if◌then◌else◌, Option, Some, None, is_some, Result, Ok, Err, IfOk, refl, sym, ap, ◌∙◌, subst, arith, length-append, ne_eqb}
 use Rattle.std.specs.Prelude.{⊤}
 use Rattle.service_model.specs.declared.cert.Item.{Item}
 use Rattle.service_model.specs.declared.cert.Item.TheVariants.{Head as HeadItem, Table as TableItem, Node as NodeItem, Split as SplitItem, End as EndItem}
 use Rattle.service_model.specs.declared.cert_rules.TheConstants.{LONG_LINE, HEAD, VERSION, AFTER_END, PLACE, NO_END}
 use Rattle.service_model.specs.Items.{is_head}
-use Rattle.service_model.specs.CertNumbers.{InRange}
-use Rattle.service_model.specs.Held.{Held, held_with, held_after, is_misplaced}
+use Rattle.service_model.specs.Held.{Held, none_held, held_with, held_after, is_misplaced}
 use Rattle.bound_cert.specs.declared.limits.TheConstants.{MAX_LINE, FORMAT}
 use Rattle.bound_cert.specs.declared.line.Refusal.{Refusal}
 use Rattle.bound_cert.specs.declared.line.Refusal.TheVariants.{NotJson, Shape}
 use Rattle.bound_cert.specs.declared.line.Line.{Line}
 use Rattle.bound_cert.specs.declared.fault.CertFault.{CertFault}
 use Rattle.bound_cert.specs.Reading.{line_from}
-use Rattle.bound_cert.specs.Stream.{Place, Step, Reads, is_out_of_turn, broken_rule, after_item, fault_at, with_rule, with_line, line_done, read_byte, go_on, reads, closed, has_begun, reads_end}
+use Rattle.bound_cert.specs.Stream.{Place, Step, Reads, start, then_reads, is_out_of_turn, broken_rule, after_item, fault_at, with_rule, with_line, line_done, read_byte, go_on, reads, closed, has_begun, reads_end}
 use Rattle.bound_cert.specs.Order.{HasSeen, line_with, IsInOrder, AllInOrder, Counts}
 use Rattle.bound_cert.specs.Laws.{ReadInOrder, EndInOrder}
 use Rattle.bound_cert.proofs.RangeFacts.{IsRead, line_ok}
 
 -- no item is out of turn exactly where it is a head and none came, or none and one came
-turn_by : (first head : Bool) → head ≡ first → (if first then not head else head) ≡ false
+pub turn_by : (first head : Bool) → head ≡ first → (if first then not head else head) ≡ false
 turn_by true true e = refl
 turn_by true false e = cc
 turn_by false true e = cc
 turn_by false false e = refl
 
-turn_from : (first head : Bool) → (if first then not head else head) ≡ false → head ≡ first
+pub turn_from : (first head : Bool) → (if first then not head else head) ≡ false → head ≡ first
 turn_from true true e = refl
 turn_from true false e = cc
 turn_from false true e = cc
 turn_from false false e = refl
 
-none_by : {A : Type 0} (o : Option A) → is_some o ≡ false → o ≡ None
+pub none_by : {A : Type 0} (o : Option A) → is_some o ≡ false → o ≡ None
 none_by None e = refl
 none_by (Some x) e = cc
 
 -- the four tests of a whole line, one after another
-abbrev tests : Bool → Bool → Bool → Bool → Option ℕ
+abbrev pub tests : Bool → Bool → Bool → Bool → Option ℕ
 tests turn version ended placed =
     if turn then Some HEAD else (if version then Some VERSION else (if ended then Some AFTER_END else (if placed then Some PLACE else None)))
 
@@ -112,7 +111,7 @@ counts_more h p (EndItem v) counts o = record {
 }
 
 -- the items of a step are in order, and the place behind them counts them
-abbrev StepInOrder : Held → Step → Type 0
+abbrev pub StepInOrder : Held → Step → Type 0
 StepInOrder h (Ok x) = AllInOrder h x.0 × Counts (held_after h x.0) x.1
 StepInOrder h (Err fault) = ⊤
 
@@ -145,7 +144,7 @@ byte_by : (h : Held) (p : Place) (b : ℕ) (feed : Bool) → Counts h p
 byte_by h p b true counts = done_in_order h p counts
 byte_by h p b false counts = begun_in_order h p b (nat_lt (length p.begun) MAX_LINE) counts
 
-byte_in_order : (h : Held) (p : Place) (b : ℕ) → Counts h p → StepInOrder h (read_byte p b)
+pub byte_in_order : (h : Held) (p : Place) (b : ℕ) → Counts h p → StepInOrder h (read_byte p b)
 unfolding read_byte
 byte_in_order h p b counts = byte_by h p b (b == 10) counts
 
@@ -153,7 +152,7 @@ append_in_order : (h : Held) (front back : List Item) → AllInOrder h front →
 append_in_order h [] back first later = later
 append_in_order h (x ∷ front) back (here, first) later = (here, append_in_order (held_with h x) front back first later)
 
-held_after-append : (h : Held) (front back : List Item) → held_after h (front ++ back) ≡ held_after (held_after h front) back
+pub held_after-append : (h : Held) (front back : List Item) → held_after h (front ++ back) ≡ held_after (held_after h front) back
 held_after-append h [] back = refl
 held_after-append h (x ∷ front) back = held_after-append (held_with h x) front back
 
@@ -200,3 +199,15 @@ ends_in_order h p false counts = closed_in_order h p counts
 pub end_in_order : EndInOrder
 unfolding reads_end
 end_in_order h p counts = (ends_in_order h p (has_begun p) counts).0
+
+pub starts : Counts none_held start
+starts = record { first = refl; tables = refl; nodes = refl; splits = refl; ended = refl }
+
+then_in_order : (h : Held) (r : Reads) (more : Place → Reads) → ReadsInOrder h r → ((g : Held) (q : Place) → Counts g q → AllInOrder g (more q).0)
+    → AllInOrder h (then_reads r more).0
+then_in_order h (items, Ok p) more (first, counts) next = append_in_order h items (more p).0 first (next (held_after h items) p (counts p refl))
+then_in_order h (items, Err fault) more (first, counts) next = first
+
+-- the items of bytes up to their end are in order
+pub whole_in_order : (bytes : List ℕ) → AllInOrder none_held (then_reads (reads bytes start) reads_end).0
+whole_in_order bytes = then_in_order none_held (reads bytes start) reads_end (read_in_order bytes none_held start starts) end_in_order

@@ -1,8 +1,8 @@
 -- What is read of a line has its numbers in their ranges.
-use Rattle.std.proofs.Common.{◌≡◌, ℕ, zero, suc, ◌<◌, ◌≤◌, ◌&&◌, nat_le, Bool, true, false, if◌then◌else◌, List, [], ◌∷◌, length, All, IfSome, Option, Some, None, Result, Ok, Err, IfOk, refl, arith, option_and_then}
+use Rattle.std.proofs.Common.{◌≡◌, ℕ, zero, suc, ◌≤◌, ◌&&◌, nat_le, Bool, true, false, if◌then◌else◌, List, ◌∷◌, All, IfSome, Option, Result, Ok, Err, IfOk, refl, arith, option_and_then}
 use Rattle.std.specs.Prelude.{⊤}
 use Rattle.serde_json.specs.Data.{Data, null, boolean, number, string, array, object, Items, no_items, item}
-use Rattle.serde_json.specs.Find.{as_number, as_u64, as_str, as_array}
+use Rattle.serde_json.specs.Find.{as_number, as_u64, as_array}
 use Rattle.service_model.specs.declared.limits.TheConstants.{INF, MAX_TIME}
 use Rattle.service_model.specs.declared.cert_rules.TheConstants.{MAX_NUMBER, MAX_BUDGET}
 use Rattle.service_model.specs.declared.plan.Plan.{Plan}

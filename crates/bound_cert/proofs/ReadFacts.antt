@@ -1,5 +1,5 @@
 -- Reading field by field: one more number of a list, and the value of a line.
-use Rattle.std.proofs.Common.{◌≡◌, ℕ, suc, ◌+◌, ◌<◌, ◌≤◌, List, [], ◌∷◌, ◌++◌, length, drop, get_or, Bool, true, false, Option, Some, None, Result, Ok, Err, refl, sym, ap, ◌∙◌, append_assoc, append-nil, add-one, drop-cons}
+use Rattle.std.proofs.Common.{◌≡◌, ℕ, suc, ◌+◌, ◌<◌, ◌≤◌, List, [], ◌∷◌, ◌++◌, length, drop, get_or, Bool, true, false, Some, None, Result, Ok, Err, refl, sym, ap, ◌∙◌, append_assoc, append-nil, add-one, drop-cons}
 use Rattle.std.proofs.lemmas.Str.{IsUtf8-from_is_utf8, is_utf8-from_IsUtf8}
 use Rattle.std.specs.Str.{IsUtf8, is_utf8}
 use Rattle.serde_json.specs.Data.{Data, Items, no_items, item}
@@ -7,7 +7,7 @@ use Rattle.serde_json.specs.Read.{read}
 use Rattle.serde_json.specs.View.{view, items_view}
 use Rattle.serde_json.specs.declared.value.Value.{Value}
 use Rattle.bound_cert.specs.declared.line.Refusal.{Refusal}
-use Rattle.bound_cert.specs.declared.line.Refusal.TheVariants.{NotJson, Shape}
+use Rattle.bound_cert.specs.declared.line.Refusal.TheVariants.{NotJson}
 use Rattle.bound_cert.specs.declared.line.LineStop.{LineStop}
 use Rattle.bound_cert.specs.declared.line.LineStop.TheVariants.{Refused, NoMemory}
 use Rattle.std.proofs.lemmas.List.{drop_all}

@@ -1,16 +1,17 @@
 -- The lines of items in order read back as the items.
-use Rattle.std.proofs.Common.{◌≡◌, ℕ, suc, ◌+◌, ◌<◌, ◌≤◌, List, [], ◌∷◌, ◌++◌, length, flat_map, All, Bool, true, false, Option, Some, None, IsSome, is_some, Result, Ok, Err, refl, sym, ap, ◌∙◌, subst, arith, append_assoc, append-nil, length-append, ne_eqb, lt-ltb}
+use Rattle.std.proofs.Common.{◌≡◌, is_some, ℕ, suc, ◌+◌, ◌<◌, ◌≤◌, List, [], ◌∷◌, ◌++◌, length, flat_map, All, true, false, Ok, refl, sym, ap, ◌∙◌, subst, arith, append_assoc, append-nil, length-append, ne_eqb, lt-ltb}
 use Rattle.service_model.specs.declared.cert.Item.{Item}
 use Rattle.service_model.specs.declared.cert.Item.TheVariants.{Head as HeadItem, Table as TableItem, Node as NodeItem, Split as SplitItem, End as EndItem}
+use Rattle.service_model.specs.Items.{items_from, items_of}
 use Rattle.service_model.specs.Held.{Held, none_held, held_with, held_after}
 use Rattle.bound_cert.specs.declared.limits.TheConstants.{MAX_LINE}
 use Rattle.bound_cert.specs.Lines.{data_of, text_of, line_of}
 use Rattle.bound_cert.specs.Stream.{Place, Step, Reads, start, reads, read_byte, line_done, with_line, with_rule, go_on, behind, after_item, after_items, broken_rule, closed, has_begun, reads_end, then_reads}
 use Rattle.bound_cert.specs.Order.{HasSeen, line_with, IsInOrder, AllInOrder, Counts}
-use Rattle.bound_cert.specs.Laws.{IsShort, LinesBack, WholeBack}
+use Rattle.bound_cert.specs.Laws.{IsShort, LinesBack, WholeBack, ItemsBack}
 use Rattle.bound_cert.proofs.ExactFacts.{IsPrintable, text_printable}
 use Rattle.bound_cert.proofs.BackFacts.{exact_item, reads_back}
-use Rattle.bound_cert.proofs.OrderFacts.{order_breaks_none, counts_more}
+use Rattle.bound_cert.proofs.OrderFacts.{order_breaks_none, counts_more, held_after-append, starts}
 use Rattle.bound_cert.proofs.EndFacts.{no_last_line}
 
 -- the place with other bytes begun
@@ -84,9 +85,6 @@ lines_back_from (x ∷ items) h p counts none (o, later) short =
     ∙ ap (go_on (reads rest)) (item_line h p x counts o)
     ∙ ap (behind (x ∷ [])) (lines_back_from items (held_with h x) (after_item p x) (counts_more h p x counts o) (none_begun p x) later (λ k d lt. short (suc k) d (omega arith)))
 
-starts : Counts none_held start
-starts = record { first = refl; tables = refl; nodes = refl; splits = refl; ended = refl }
-
 pub lines_back : LinesBack
 lines_back items ordered short = lines_back_from items none_held start starts refl ordered short
 
@@ -112,3 +110,9 @@ whole_back items ordered short ended =
     ap (λ (r : Reads). then_reads r reads_end) (lines_back items ordered short)
     ∙ ap (behind items) (ends_well end over counted.1)
     ∙ ap (λ (xs : List Item). let r : Reads = (xs, Ok end) in r) (append-nil items)
+
+pub items_back : ItemsBack
+items_back c ordered short =
+    let front = HeadItem c.head ∷ items_from c 0 0 c.nodes in
+    let ended = ap (λ (h : Held). is_some h.verdict) (held_after-append none_held front (EndItem c.verdict ∷ [])) in
+    whole_back (items_of c) ordered short ended

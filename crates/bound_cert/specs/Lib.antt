@@ -7,4 +7,8 @@ pub mod Steps
 pub mod Feeding
 pub mod Reader
 pub mod Order
+pub mod Sizes
+pub mod Seen
+pub mod Broken
+pub mod Arranged
 pub mod Laws

@@ -1,5 +1,5 @@
 -- Items in order: those whose lines break no rule, as far as lines go.
-use Rattle.std.specs.Prelude.{ℕ, ◌≡◌, ◌==◌, Bool, false, List, [], ◌∷◌, length, None, is_none, is_some, ⊤}
+use Rattle.std.specs.Prelude.{ℕ, ◌≡◌, ◌==◌, false, List, [], ◌∷◌, length, None, is_none, is_some, ⊤}
 use Rattle.service_model.specs.declared.cert.Item.{Item}
 use Rattle.service_model.specs.declared.cert.Item.TheVariants.{Head as HeadItem, Table as TableItem, Node as NodeItem, Split as SplitItem, End as EndItem}
 use Rattle.service_model.specs.Items.{is_head}

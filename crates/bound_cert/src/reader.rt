@@ -1,5 +1,5 @@
 // A reader of certificates.
-ghost use Rattle.std.specs.Prelude.{◌≡◌, ◌≤◌, ◌+◌, ◌^◌, length, false, Some, None, Err, OnOk, is_ok};
+ghost use Rattle.std.specs.Prelude.{◌≡◌, ◌≤◌, ◌+◌, ◌^◌, length, false, Some, None, Err, OnOk, OnErr, is_ok};
 ghost use Rattle.service_model.specs.Takers.{state_of};
 ghost use Rattle.bound_cert.specs.Stream as bytes;
 ghost use Rattle.bound_cert.specs.Feeding.{Feeds};
@@ -58,6 +58,7 @@ impl CertReader {
         requires room { self.old.fed + length piece.now ≤ 2 ^ 32 }
         requires still_open { self.old.closed ≡ false }
         ensures fed { OnOk result (self.new.fed ≡ self.old.fed + length piece.now) }
+        ensures not_fed { OnErr result (self.new.fed ≡ self.old.fed) }
         ensures still_open { self.new.closed ≡ false }
 
         ensures feeds { self.old.answer ≡ None → Feeds (bytes.reads piece.now self.old.place)
@@ -90,6 +91,7 @@ impl CertReader {
     pub fn finish<W, T: Taker<W>>(&mut self, taker: &mut T, world: &mut W) -> Result<(), FeedStop>
         requires room { self.old.fed ≤ 2 ^ 32 }
         requires still_open { self.old.closed ≡ false }
+        ensures fed { self.new.fed ≡ self.old.fed }
         ensures closed { self.new.closed ≡ is_ok result }
 
         ensures feeds { self.old.answer ≡ None → Feeds (bytes.reads_end self.old.place)

@@ -1,6 +1,6 @@
 ghost use Rattle.std.specs.Prelude.{◌<◌};
 
-use crate::{CertFault, CertReader, FeedStop, line_of};
+use crate::{CertFault, CertReader, FeedStop, items_of, line_of};
 use service_model::cert_rules::{
     AFTER_END, HEAD, LONG_LINE, NO_END, NOT_JSON, PLACE, SHAPE, VERSION,
 };
@@ -111,6 +111,36 @@ impl Taker<Vec<u8>> for Scribe {
     }
 }
 
+// Counts its takes, and refuses each from the third on.
+#[derive(Drop)]
+struct Reluctant {
+    takes: u64,
+    stops: u64,
+}
+
+impl Taker<()> for Reluctant {
+    ghost stands_for = { λ taker world items. Unit {0} };
+
+    ghost refuses = { λ taker world item. Unit {0} };
+
+    ghost keeps = { λ earlier before later after. Unit {0} };
+
+    ghost stops = { λ taker. taker.stops };
+
+    ghost keeps_itself = { λ taker world. tt };
+
+    ghost keeps_on = { λ a u b v c w first second. tt };
+
+    fn take(&mut self, _world: &mut (), _item: &Item) -> Result<(), TakeStop> {
+        self.takes = self.takes.saturating_add(1);
+        if self.takes < 3 {
+            return Ok(());
+        }
+        self.stops = self.stops.saturating_add(1);
+        Err(TakeStop::Stopped)
+    }
+}
+
 // What a reader answers to bytes whose items are all taken.
 fn taken(alloc: Global, bytes: &[u8]) -> Result<(), FeedStop> {
     fed(alloc, bytes, 7, &mut Collector::new(alloc), &mut ())
@@ -164,11 +194,41 @@ fn a_node_has_seen_the_tables_before_it(rt: HostRuntime) -> Result<(), Fail> {
 }
 
 #[test]
+fn a_certificate_has_the_items_that_were_read(rt: HostRuntime) -> Result<(), Fail> {
+    let alloc = rt.alloc();
+    let bytes = joined(alloc, &DIAMOND)?;
+    let mut collector = Collector::new(alloc);
+    assert_eq!(rt; fed(alloc, &bytes, 4096, &mut collector, &mut ()), Ok(()));
+    let cert = collector.cert().ok_or("no certificate")?;
+    let mut written = Vec::new(alloc);
+    for item in items_of(alloc, cert)?.as_slice() {
+        written.extend_from_slice(line_of(alloc, item)?.as_slice())?;
+    }
+    assert_eq!(rt; written.as_slice(), bytes.as_slice());
+    Ok(())
+}
+
+#[test]
 fn the_first_rule_that_a_damaged_line_breaks_is_named(rt: HostRuntime) -> Result<(), Fail> {
     for damage in DAMAGES {
         let (line, text, rule) = damage;
         assert_eq!(rt; answer(rt.alloc(), damage)?, fault(line, rule), "{text}");
     }
+    Ok(())
+}
+
+#[test]
+fn no_take_is_made_after_a_refused_one(rt: HostRuntime) -> Result<(), Fail> {
+    let bytes = joined(rt.alloc(), &DIAMOND)?;
+    assert!(rt; bytes.len() < LONGEST);
+    let mut reader = CertReader::new(rt.alloc());
+    let mut taker = Reluctant { takes: 0, stops: 0 };
+    let refused = Err(FeedStop::Stopped(3));
+    assert_eq!(rt; reader.feed(&bytes, &mut taker, &mut ()), refused);
+    assert_eq!(rt; taker.takes, 3, "in the call");
+    assert_eq!(rt; reader.feed(&bytes, &mut taker, &mut ()), refused);
+    assert_eq!(rt; reader.finish(&mut taker, &mut ()), refused);
+    assert_eq!(rt; taker.takes, 3, "in later calls");
     Ok(())
 }
 

@@ -1,0 +1,12 @@
+mod PlaceFacts
+mod NodeFacts
+mod KeepFacts
+mod TakeFacts
+mod WholeFacts
+mod EndedFacts
+mod AnswerFacts
+mod PassFacts
+mod WalkFacts
+mod WalkedFacts
+pub mod RefusalFacts
+pub mod WrittenFacts

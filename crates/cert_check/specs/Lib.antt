@@ -1,0 +1,9 @@
+pub mod Faults
+pub mod Frames
+pub mod Keeping
+pub mod Checking
+pub mod Refusals
+pub mod Bytes
+pub mod Written
+pub mod Walking
+pub mod Laws

@@ -15,3 +15,4 @@ pub mod CheckFacts
 pub mod FaultFacts
 pub mod GrownFacts
 pub mod TablesKeptFacts
+pub mod EarnedFacts

@@ -21,7 +21,8 @@ use Rattle.service_model.specs.CertRanges.{Cut, AreCuts, AreNodes, IsOnlyLeaf}
 use Rattle.service_model.specs.Repairs.{Repair, IsRepair, Found, FoundOf, better}
 use Rattle.service_model.specs.Verdicts.{BoundsLeaves, Searched, IsEnding, IsTrueOf}
 use Rattle.service_model.specs.Items.{items_of}
-use Rattle.service_model.specs.Held.{Held, none_held, held_with, held_after, range_of, bound_at}
+use Rattle.service_model.specs.Held.{Held, none_held, held_with, held_after, budget_of, range_of, bound_at}
+use Rattle.service_model.specs.Earned.{IsEarned}
 use Rattle.service_model.specs.CertRules.{TableRule, Keeps}
 use Rattle.service_model.specs.Certs.{AllKeep, IsAccepted, IsFault}
 use Rattle.cert_laws.specs.SoFar.{SoundSoFar}
@@ -90,6 +91,16 @@ AcceptedLaw = (n : Net) (items : List Item) → IsNetwork n → IsAccepted n ite
 -- where no rule fails on the items of a certificate, its verdict is true of the network
 abbrev pub CertLaw : Type 0
 CertLaw = (n : Net) (c : Cert) → IsNetwork n → AllKeep n none_held (items_of c) → IsTrueOf n c.verdict
+
+-- each split among items on which no rule fails is earned by the nodes before it
+abbrev pub EarnedLaw : Type 0
+EarnedLaw = (n : Net) (front rest : List Item) (s : Split) → AllKeep n none_held (front ++ SplitItem s ∷ rest)
+    → IsEarned n (held_after none_held front) s
+
+-- items on which no rule fails have no more nodes than their head allows
+abbrev pub BudgetLaw : Type 0
+BudgetLaw = (n : Net) (items : List Item) → AllKeep n none_held items
+    → length (held_after none_held items).nodes ≤ budget_of (held_after none_held items)
 
 -- items have at most one first fault
 abbrev pub FaultOneLaw : Type 0

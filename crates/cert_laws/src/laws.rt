@@ -1,5 +1,5 @@
 // The laws, each as the contract of a call that does nothing.
-ghost use Rattle.cert_laws.specs.Laws.{LeafLaw, LeastBoundLaw, FoundMoreLaw, RepairLaw, FoundOneLaw, TableMoreLaw, NodeStaysLaw, TrueLaw, EndingOneLaw, ItemMoreLaw, BoundLaw, CheckLaw, AcceptedLaw, CertLaw, FaultOneLaw, NoFaultLaw, FirstLaw, GrownLaw, TablesLaw};
+ghost use Rattle.cert_laws.specs.Laws.{LeafLaw, LeastBoundLaw, FoundMoreLaw, RepairLaw, FoundOneLaw, TableMoreLaw, NodeStaysLaw, TrueLaw, EndingOneLaw, ItemMoreLaw, BoundLaw, CheckLaw, AcceptedLaw, CertLaw, EarnedLaw, BudgetLaw, FaultOneLaw, NoFaultLaw, FirstLaw, GrownLaw, TablesLaw};
 
 /// Each feasible plan lies in the range of exactly one leaf.
 pub fn leaf_law()
@@ -70,6 +70,16 @@ pub fn accepted_law()
 /// Where no rule fails on the items of a certificate, its verdict is true of the network.
 pub fn cert_law()
     ensures { CertLaw }
+{}
+
+/// Where no rule fails on any item, each split is earned by the nodes before it.
+pub fn earned_law()
+    ensures { EarnedLaw }
+{}
+
+/// Where no rule fails on any item, there are no more nodes than the head allows.
+pub fn budget_law()
+    ensures { BudgetLaw }
 {}
 
 /// Items have at most one first fault.

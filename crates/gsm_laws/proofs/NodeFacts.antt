@@ -1,4 +1,4 @@
--- A feasible plan of a node's range costs at least the node's bound.
+-- A feasible plan costs at least the values of the tables that it is within, and the bound of the node in whose range it lies.
 use Rattle.std.proofs.Common.{◌≡◌, ℕ, zero, suc, ◌+◌, ◌<◌, ◌≤◌, Bool, true, false, cond, List, [], ◌∷◌, length, get_or, refl, ap, arith}
 use Rattle.std.specs.Prelude.{◌&&◌, ◌==◌}
 use Rattle.std.specs.List.{flat_map, AllByRecursion}
@@ -18,9 +18,10 @@ use Rattle.service_model.specs.Tables.{table_at, Supplies, transit_in, IsChild}
 use Rattle.service_model.specs.Nodes.{below, below_within, below_roots, Holds, Fits, IsSoundAt, AreSoundBelow, MeetsChild}
 use Rattle.service_model.proofs.RangeFacts.{floor_le}
 use Rattle.gsm_laws.specs.Traces.{TracedWithin, IsTraced}
-use Rattle.gsm_laws.specs.Laws.{NodeLaw}
+use Rattle.gsm_laws.specs.Laws.{FeasibleLaw, NodeLaw}
 use Rattle.gsm_laws.proofs.ElementFacts.{each_two, all_append, all_parts}
-use Rattle.gsm_laws.proofs.BelowFacts.{earlier_from_sound}
+use Rattle.gsm_laws.proofs.BelowFacts.{earlier_from_sound, sound_everywhere}
+use Rattle.gsm_laws.proofs.TracedFacts.{traced_law}
 use Rattle.gsm_laws.proofs.WholeFacts.{once_cost, lower_roots}
 
 choice_le : (b : Bool) (out x y late : ℕ) → (b ≡ true → out + x ≤ late) → (b ≡ false → out + y ≤ late) → out + cond b x y ≤ late
@@ -73,41 +74,55 @@ fits_holds n r p t ends feasible inside there fits =
       not_above = (feasible.stages t.stage there).within;
     }
 
--- the table is sound and fits the range
-abbrev pub FitsAt : Net → List Table → Range → ℕ → Type 0
-FitsAt n tables r k = IsSoundAt n tables k × Fits n r (table_at tables k)
+-- the table is sound, and the plan is within it
+abbrev pub HoldsAt : Net → List Table → Plan → ℕ → Type 0
+HoldsAt n tables p k = IsSoundAt n tables k × Holds n p (table_at tables k)
 
-fit_children : (n : Net) (tables : List Table) (r : Range) (p : Plan) (j steps i : ℕ) → Feasible n p
-    → ((c : ℕ) → c < steps → AllByRecursion (FitsAt n tables r) (below_within steps tables c) → TracedWithin steps n tables p c) → i ≤ steps
+meet_children : (n : Net) (tables : List Table) (p : Plan) (j steps i : ℕ) → Feasible n p
+    → ((c : ℕ) → c < steps → AllByRecursion (HoldsAt n tables p) (below_within steps tables c) → TracedWithin steps n tables p c) → i ≤ steps
     → (cs : List ℕ) → AllByRecursion (λ c. c < i) cs
     → AllByRecursion (λ c. IsChild (table_at tables c).kind n.arcs (table_at tables c).stage j) cs
-    → AllByRecursion (FitsAt n tables r) (flat_map (below_within steps tables) cs)
+    → AllByRecursion (HoldsAt n tables p) (flat_map (below_within steps tables) cs)
     → AllByRecursion (λ c. MeetsChild (table_at tables c).kind n.arcs p (table_at tables c).stage j × TracedWithin steps n tables p c) cs
-fit_children n tables r p j steps i feasible again low [] earlier children fits = tt
-fit_children n tables r p j steps i feasible again low (c ∷ cs) earlier children fits =
-    let parts = all_append (FitsAt n tables r) (below_within steps tables c) (flat_map (below_within steps tables) cs) fits in (
+meet_children n tables p j steps i feasible again low [] earlier children holds = tt
+meet_children n tables p j steps i feasible again low (c ∷ cs) earlier children holds =
+    let parts = all_append (HoldsAt n tables p) (below_within steps tables c) (flat_map (below_within steps tables) cs) holds in (
       (meets_child (table_at tables c).kind n p (table_at tables c).stage j feasible children.0, again c (omega (arith, earlier.0)) parts.0),
-      fit_children n tables r p j steps i feasible again low cs earlier.1 children.1 parts.1,
+      meet_children n tables p j steps i feasible again low cs earlier.1 children.1 parts.1,
     )
 
-fit_traced : (n : Net) (tables : List Table) (r : Range) (p : Plan) → HasEnds (length n.stages) n.arcs → Feasible n p → IsIn n r p
-    → (steps i : ℕ) → i < steps → AllByRecursion (FitsAt n tables r) (below_within steps tables i) → TracedWithin steps n tables p i
-fit_traced n tables r p ends feasible inside zero i low fits = absurd (omega arith)
-fit_traced n tables r p ends feasible inside (suc steps) i low fits =
-    let shaped = fits.0.0.shaped in (
-      fits_holds n r p (table_at tables i) ends feasible inside shaped.sized.stage fits.0.1,
-      fit_children n tables r p (table_at tables i).stage steps i feasible (fit_traced n tables r p ends feasible inside steps) (omega arith)
-          (table_at tables i).children (earlier_from_sound n tables i fits.0.0)
+holds_traced : (n : Net) (tables : List Table) (p : Plan) → Feasible n p
+    → (steps i : ℕ) → i < steps → AllByRecursion (HoldsAt n tables p) (below_within steps tables i) → TracedWithin steps n tables p i
+holds_traced n tables p feasible zero i low holds = absurd (omega arith)
+holds_traced n tables p feasible (suc steps) i low holds =
+    let shaped = holds.0.0.shaped in (
+      holds.0.1,
+      meet_children n tables p (table_at tables i).stage steps i feasible (holds_traced n tables p feasible steps) (omega arith)
+          (table_at tables i).children (earlier_from_sound n tables i holds.0.0)
           (recursion_from_All (λ c. IsChild (table_at tables c).kind n.arcs (table_at tables c).stage (table_at tables i).stage) (table_at tables i).children shaped.children)
-          fits.1,
+          holds.1,
     )
+
+-- a feasible plan within sound tables meets the arcs between them
+pub within_traced : (n : Net) (tables : List Table) (p : Plan) (i : ℕ) → Feasible n p → AreSoundBelow n tables i
+    → AllByRecursion (λ k. Holds n p (table_at tables k)) (below tables i) → IsTraced n tables p i
+within_traced n tables p i feasible sound holds =
+    holds_traced n tables p feasible (suc i) i (omega arith)
+    (each_two (IsSoundAt n tables) (λ k. Holds n p (table_at tables k)) (HoldsAt n tables p) (λ k at hold. (at, hold)) (below tables i) sound holds)
 
 -- a feasible plan of a range is within the tables that fit the range, and meets the arcs between them
 pub feasible_traced : (n : Net) (tables : List Table) (r : Range) (p : Plan) (i : ℕ) → HasEnds (length n.stages) n.arcs → Feasible n p → IsIn n r p
     → AreSoundBelow n tables i → AllByRecursion (λ k. Fits n r (table_at tables k)) (below tables i) → IsTraced n tables p i
 feasible_traced n tables r p i ends feasible inside sound fits =
-    fit_traced n tables r p ends feasible inside (suc i) i (omega arith)
-    (each_two (IsSoundAt n tables) (λ k. Fits n r (table_at tables k)) (FitsAt n tables r) (λ k at fit. (at, fit)) (below tables i) sound fits)
+    within_traced n tables p i feasible sound
+    (each_two (IsSoundAt n tables) (λ k. Fits n r (table_at tables k)) (λ k. Holds n p (table_at tables k))
+    (λ k at fit. fits_holds n r p (table_at tables k) ends feasible inside at.shaped.sized.stage fit) (below tables i) sound fits)
+
+pub feasible_law : FeasibleLaw
+feasible_law n tables p i sound within feasible holds =
+    let below_sound = sound_everywhere n tables i sound within in
+    traced_law n tables p i below_sound
+    (within_traced n tables p i feasible below_sound (recursion_from_All (λ k. Holds n p (table_at tables k)) (below tables i) holds))
 
 pub node_law : NodeLaw
 node_law n tables r roots p ends sound node feasible inside =

@@ -1,5 +1,5 @@
 -- The laws over tables.
-use Rattle.std.specs.Prelude.{◌≡◌, ℕ, ◌<◌, ◌≤◌, List, ◌∷◌, length, slice_index}
+use Rattle.std.specs.Prelude.{◌≡◌, ℕ, ◌<◌, ◌≤◌, List, ◌∷◌, length, slice_index, All}
 use Rattle.std.specs.List.{flat_map, AllByRecursion}
 use Rattle.service_model.specs.declared.limits.TheConstants.{INF}
 use Rattle.service_model.specs.declared.plan.Plan.{Plan}
@@ -9,8 +9,8 @@ use Rattle.service_model.specs.Net.{Net}
 use Rattle.service_model.specs.Plans.{HasTimes, Feasible, cost_of}
 use Rattle.service_model.specs.Customers.{HasEnds}
 use Rattle.service_model.specs.Ranges.{IsIn}
-use Rattle.service_model.specs.Tables.{table_at}
-use Rattle.service_model.specs.Nodes.{below, plan_value, bound_of, AreSoundBelow, AreTightBelow, IsOnce, IsNode}
+use Rattle.service_model.specs.Tables.{table_at, Sound}
+use Rattle.service_model.specs.Nodes.{below, Holds, plan_value, bound_of, AreSoundBelow, AreTightBelow, IsOnce, IsNode}
 use Rattle.gsm_laws.specs.Traces.{IsTraced, cost_at, IsTraceOf, IsWhole, IsLeastTraced}
 
 -- what is at or below sound tables is the table, and what is at or below its children
@@ -22,6 +22,11 @@ BelowLaw = (n : Net) (tables : List Table) (i : ℕ) → AreSoundBelow n tables 
 abbrev pub TracedLaw : Type 0
 TracedLaw = (n : Net) (tables : List Table) (p : Plan) (i : ℕ) → AreSoundBelow n tables i → IsTraced n tables p i
     → plan_value p (table_at tables i) ≤ cost_at n p tables (below tables i)
+
+-- a feasible plan that is within a table and those below it costs there at least the table's value at its times
+abbrev pub FeasibleLaw : Type 0
+FeasibleLaw = (n : Net) (tables : List Table) (p : Plan) (i : ℕ) → Sound n tables → i < length tables → Feasible n p
+    → All (λ k. Holds n p (table_at tables k)) (below tables i) → plan_value p (table_at tables i) ≤ cost_at n p tables (below tables i)
 
 -- a feasible plan of a node's range costs at least the node's bound
 abbrev pub NodeLaw : Type 0

@@ -3,4 +3,4 @@
 
 mod laws;
 
-pub use laws::{below_law, node_law, trace_law, traced_law, whole_law};
+pub use laws::{below_law, feasible_law, node_law, trace_law, traced_law, whole_law};

@@ -61,6 +61,7 @@ fn two_stages_and_an_arc_make_a_network(rt: HostRuntime) -> Result<(), Fail> {
         topological(rt.alloc(), network)?.as_slice(),
         [1, 0].as_slice()
     );
+    assert_eq!(rt; budget_of(network, None), Ok(1_000));
     Ok(())
 }
 

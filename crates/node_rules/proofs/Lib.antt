@@ -1,0 +1,3 @@
+mod FitFacts
+mod MarkFacts
+mod WalkFacts

@@ -1,0 +1,4 @@
+pub mod Faults
+pub mod Floored
+pub mod Marks
+pub mod Walks

@@ -18,25 +18,39 @@ use Rattle.planner_top.specs.Texts.{stop_row}
 use Rattle.planner_top.specs.Problems.{IsTaskOf, TellsWords}
 use Rattle.planner_top.specs.Answers.{IsProblem, IsRefusal, IsDone, MayEnd, ending_of, IsAnswer}
 
-not_words : (t : Task) (rows : List (List (List ℕ))) (filled : ℕ) → IsDone ending.Words rows filled t → ⊥
-not_words (task.Solve c f) rows filled is = is
-not_words (task.Audit c plan) rows filled is = is.0
+not_words : (t : Task) (rows : List (List (List ℕ))) (filled : ℕ) (cert : Option (List ℕ)) → IsDone ending.Words rows filled cert t → ⊥
+not_words (task.Solve c f) rows filled cert is = is
+not_words (task.Audit c plan) rows filled cert is = is.0
+not_words (task.Check c bytes) rows filled cert is = is.0
 
-done_may_end : (c : Command) (t : Task) (e : Ending) (rows : List (List (List ℕ))) (filled : ℕ) → IsTaskOf c t → IsDone e rows filled t → MayEnd c e
-done_may_end command.Solve (task.Solve c f) ending.NotFeasible rows filled own is = absurd is
-done_may_end command.Solve (task.Solve c f) ending.Done rows filled own is = tt
-done_may_end command.Solve (task.Solve c f) ending.Infeasible rows filled own is = tt
-done_may_end command.Solve (task.Solve c f) ending.Words rows filled own is = absurd is
-done_may_end command.Solve (task.Solve c f) ending.Refused rows filled own is = absurd is
-done_may_end command.Solve (task.Solve c f) ending.TooLong rows filled own is = absurd is
-done_may_end command.Audit (task.Audit c plan) ending.Infeasible rows filled own is = absurd is.0
-done_may_end command.Audit (task.Audit c plan) ending.Done rows filled own is = tt
-done_may_end command.Audit (task.Audit c plan) ending.NotFeasible rows filled own is = tt
-done_may_end command.Audit (task.Audit c plan) ending.Words rows filled own is = absurd is.0
-done_may_end command.Audit (task.Audit c plan) ending.Refused rows filled own is = absurd is.0
-done_may_end command.Audit (task.Audit c plan) ending.TooLong rows filled own is = absurd is.0
-done_may_end command.Solve (task.Audit c plan) e rows filled own is = absurd own
-done_may_end command.Audit (task.Solve c f) e rows filled own is = absurd own
+done_may_end : (c : Command) (t : Task) (e : Ending) (rows : List (List (List ℕ))) (filled : ℕ) (cert : Option (List ℕ)) → IsTaskOf c t → IsDone e rows filled cert t → MayEnd c e
+done_may_end command.Solve (task.Solve c f) ending.NotFeasible rows filled cert own is = absurd is
+done_may_end command.Solve (task.Solve c f) ending.NotAccepted rows filled cert own is = absurd is
+done_may_end command.Solve (task.Solve c f) ending.Done rows filled cert own is = tt
+done_may_end command.Solve (task.Solve c f) ending.Infeasible rows filled cert own is = tt
+done_may_end command.Solve (task.Solve c f) ending.Words rows filled cert own is = absurd is
+done_may_end command.Solve (task.Solve c f) ending.Refused rows filled cert own is = absurd is
+done_may_end command.Solve (task.Solve c f) ending.TooLong rows filled cert own is = absurd is
+done_may_end command.Audit (task.Audit c plan) ending.Infeasible rows filled cert own is = absurd is.0
+done_may_end command.Audit (task.Audit c plan) ending.NotAccepted rows filled cert own is = absurd is.0
+done_may_end command.Audit (task.Audit c plan) ending.Done rows filled cert own is = tt
+done_may_end command.Audit (task.Audit c plan) ending.NotFeasible rows filled cert own is = tt
+done_may_end command.Audit (task.Audit c plan) ending.Words rows filled cert own is = absurd is.0
+done_may_end command.Audit (task.Audit c plan) ending.Refused rows filled cert own is = absurd is.0
+done_may_end command.Audit (task.Audit c plan) ending.TooLong rows filled cert own is = absurd is.0
+done_may_end command.Check (task.Check c bytes) ending.Infeasible rows filled cert own is = absurd is.0
+done_may_end command.Check (task.Check c bytes) ending.NotFeasible rows filled cert own is = absurd is.0
+done_may_end command.Check (task.Check c bytes) ending.Done rows filled cert own is = tt
+done_may_end command.Check (task.Check c bytes) ending.NotAccepted rows filled cert own is = tt
+done_may_end command.Check (task.Check c bytes) ending.Words rows filled cert own is = absurd is.0
+done_may_end command.Check (task.Check c bytes) ending.Refused rows filled cert own is = absurd is.0
+done_may_end command.Check (task.Check c bytes) ending.TooLong rows filled cert own is = absurd is.0
+done_may_end command.Solve (task.Audit c plan) e rows filled cert own is = absurd own
+done_may_end command.Solve (task.Check c bytes) e rows filled cert own is = absurd own
+done_may_end command.Audit (task.Solve c f) e rows filled cert own is = absurd own
+done_may_end command.Audit (task.Check c bytes) e rows filled cert own is = absurd own
+done_may_end command.Check (task.Solve c f) e rows filled cert own is = absurd own
+done_may_end command.Check (task.Audit c plan) e rows filled cert own is = absurd own
 
 one_asked : (words : List (List ℕ)) (q r : Asked) → asked_of words ≡ Ok q → asked_of words ≡ Ok r → q ≡ r
 one_asked words q r is also = cc
@@ -47,19 +61,19 @@ not_refused words q is err = (let none = rw is at err in cc)
 no_rule : (words : List (List ℕ)) (q : Asked) (fault : WordFault) → asked_of words ≡ Ok q → asked_of words ≡ Err fault → ⊥
 no_rule words q fault is also = cc
 
-told_done : (words : List (List ℕ)) (held : Option Held) (e : Ending) (rows : List (List (List ℕ))) (filled : ℕ) (t : Task) → IfSome held (λ m. IsProblem words m (Ok t)) → IsDone e rows filled t
-    → IfSome held (λ m. (problem : Result Task Stop) × IsProblem words m problem × MatchResult problem (IsDone e rows filled) (IsRefusal e rows filled))
-told_done words None e rows filled t is done = tt
-told_done words (Some m) e rows filled t is done = (Ok t, is, done)
+told_done : (words : List (List ℕ)) (held : Option Held) (e : Ending) (rows : List (List (List ℕ))) (filled : ℕ) (cert : Option (List ℕ)) (t : Task) → IfSome held (λ m. IsProblem words m (Ok t)) → IsDone e rows filled cert t
+    → IfSome held (λ m. (problem : Result Task Stop) × IsProblem words m problem × MatchResult problem (IsDone e rows filled cert) (IsRefusal e rows filled cert))
+told_done words None e rows filled cert t is done = tt
+told_done words (Some m) e rows filled cert t is done = (Ok t, is, done)
 
-pub done_answer : (words : List (List ℕ)) (held : Option Held) (e : Ending) (rows : List (List (List ℕ))) (filled : ℕ) (t : Task) → ((q : Asked) × (asked_of words ≡ Ok q) × IsTaskOf q.command t)
-    → IfSome held (λ m. IsProblem words m (Ok t)) → filled ≤ MOST_FILLED → IsDone e rows filled t → IsAnswer words held e rows filled
-done_answer words held e rows filled t asked is few done = record {
-  words = (λ same. absurd (not_words t rows filled (subst (λ (x : Ending). IsDone x rows filled t) same done)), λ err. absurd (not_refused words asked.0 asked.1 err));
+pub done_answer : (words : List (List ℕ)) (held : Option Held) (e : Ending) (rows : List (List (List ℕ))) (filled : ℕ) (cert : Option (List ℕ)) (t : Task) → ((q : Asked) × (asked_of words ≡ Ok q) × IsTaskOf q.command t)
+    → IfSome held (λ m. IsProblem words m (Ok t)) → filled ≤ MOST_FILLED → IsDone e rows filled cert t → IsAnswer words held e rows filled cert
+done_answer words held e rows filled cert t asked is few done = record {
+  words = (λ same. absurd (not_words t rows filled cert (subst (λ (x : Ending). IsDone x rows filled cert t) same done)), λ err. absurd (not_refused words asked.0 asked.1 err));
   rule = λ fault also. absurd (no_rule words asked.0 fault asked.1 also);
-  own = λ q also. done_may_end q.command t e rows filled (subst (λ (x : Asked). IsTaskOf x.command t) (one_asked words asked.0 q asked.1 also) asked.2) done;
+  own = λ q also. done_may_end q.command t e rows filled cert (subst (λ (x : Asked). IsTaskOf x.command t) (one_asked words asked.0 q asked.1 also) asked.2) done;
   few = few;
-  told = told_done words held e rows filled t is done;
+  told = told_done words held e rows filled cert t is done;
 }
 
 refused_may_end : (c : Command) (s : Stop) → MayEnd c (ending_of s)
@@ -69,11 +83,14 @@ refused_may_end command.Solve (stop.Refused fault) = tt
 refused_may_end command.Audit (stop.Words fault) = tt
 refused_may_end command.Audit (stop.TooLong word) = tt
 refused_may_end command.Audit (stop.Refused fault) = tt
+refused_may_end command.Check (stop.Words fault) = tt
+refused_may_end command.Check (stop.TooLong word) = tt
+refused_may_end command.Check (stop.Refused fault) = tt
 
-told_refused : (words : List (List ℕ)) (held : Option Held) (e : Ending) (rows : List (List (List ℕ))) (filled : ℕ) (s : Stop) → IfSome held (λ m. IsProblem words m (Err s)) → IsRefusal e rows filled s
-    → IfSome held (λ m. (problem : Result Task Stop) × IsProblem words m problem × MatchResult problem (IsDone e rows filled) (IsRefusal e rows filled))
-told_refused words None e rows filled s is line = tt
-told_refused words (Some m) e rows filled s is line = (Err s, is, line)
+told_refused : (words : List (List ℕ)) (held : Option Held) (e : Ending) (rows : List (List (List ℕ))) (filled : ℕ) (cert : Option (List ℕ)) (s : Stop) → IfSome held (λ m. IsProblem words m (Err s)) → IsRefusal e rows filled cert s
+    → IfSome held (λ m. (problem : Result Task Stop) × IsProblem words m problem × MatchResult problem (IsDone e rows filled cert) (IsRefusal e rows filled cert))
+told_refused words None e rows filled cert s is line = tt
+told_refused words (Some m) e rows filled cert s is line = (Err s, is, line)
 
 words_rule : (words : List (List ℕ)) (rows : List (List (List ℕ))) (s : Stop) (fault : WordFault) → TellsWords words s → rows ≡ stop_row s ∷ [] → asked_of words ≡ Err fault → rows ≡ stop_row (stop.Words fault) ∷ []
 words_rule words rows (stop.Words f) fault tells line also = (let same : f ≡ fault = cc in line ∙ ap (λ (x : WordFault). stop_row (stop.Words x) ∷ []) same)
@@ -93,12 +110,12 @@ words_exactly words (stop.Refused f) tells = (λ same. cc, λ err. absurd (ok_no
     ok_not_err (Ok q) ok err = cc
     ok_not_err (Err g) ok err = cc
 
-pub refused_answer : (words : List (List ℕ)) (held : Option Held) (e : Ending) (rows : List (List (List ℕ))) (filled : ℕ) (s : Stop) → TellsWords words s
-    → IfSome held (λ m. IsProblem words m (Err s)) → IsRefusal e rows filled s → IsAnswer words held e rows filled
-refused_answer words held e rows filled s tells is line = record {
+pub refused_answer : (words : List (List ℕ)) (held : Option Held) (e : Ending) (rows : List (List (List ℕ))) (filled : ℕ) (cert : Option (List ℕ)) (s : Stop) → TellsWords words s
+    → IfSome held (λ m. IsProblem words m (Err s)) → IsRefusal e rows filled cert s → IsAnswer words held e rows filled cert
+refused_answer words held e rows filled cert s tells is line = record {
   words = (λ same. (words_exactly words s tells).0 (sym line.0 ∙ same), λ err. line.0 ∙ (words_exactly words s tells).1 err);
   rule = λ fault also. words_rule words rows s fault tells line.1 also;
   own = λ q also. subst (λ (x : Ending). MayEnd q.command x) (sym line.0) (refused_may_end q.command s);
   few = (let none = line.2 in omega (arith, none));
-  told = told_refused words held e rows filled s is line;
+  told = told_refused words held e rows filled cert s is line;
 }

@@ -1,5 +1,5 @@
 -- The task of files, by the steps that find it.
-use Rattle.std.proofs.Common.{◌≡◌, ℕ, List, length, Option, Some, None, Result, Ok, Err, refl, sym, subst, ap, ◌∙◌}
+use Rattle.std.proofs.Common.{◌≡◌, ◌≤◌, ℕ, List, length, Option, Some, None, Result, Ok, Err, refl, sym, subst, ap, ◌∙◌}
 use Rattle.std.specs.Option.{MatchOption}
 use Rattle.service_model.specs.declared.plan.Plan.{Plan}
 use Rattle.service_model.specs.Plans.{HasTimes}
@@ -19,6 +19,7 @@ use Rattle.network_check.specs.Refusals.{IsFirstTogether, RecordsCase}
 use Rattle.planner_top.specs.declared.command.Command.{Command}
 use Rattle.planner_top.specs.declared.command.Command.TheVariants as command
 use Rattle.planner_top.specs.declared.contents.Contents.{Contents}
+use Rattle.planner_top.specs.declared.files.TheConstants.{CERT_LIMIT}
 use Rattle.planner_top.specs.declared.task.Task.{Task}
 use Rattle.planner_top.specs.declared.task.Task.TheVariants as task
 use Rattle.planner_top.specs.declared.stop.Stop.TheVariants as stop
@@ -69,6 +70,10 @@ pub audit_last : (raw : RawNet) (further : List ℕ) (c : Checked) (plan : Plan)
     → Reads (plan_file_fault (names_of raw.stages) (rows_of_bytes further)) (plan_of (names_of raw.stages) (rows_of_bytes further)) (Ok plan) → LastCase command.Audit raw further (Ok (task.Audit c plan))
 audit_last raw further c plan made checked is =
     (sym is.0, (made, is.1), (checked, subst (λ (p : Plan). HasTimes c.network p) (sym is.1) (plan_has_times raw c (rows_of_bytes further) made checked)))
+
+-- the certificate of a network is checked
+pub check_last : (raw : RawNet) (further : List ℕ) (c : Checked) → IsNetworkOf raw c → IsChecked c → length further ≤ CERT_LIMIT → LastCase command.Check raw further (Ok (task.Check c further))
+check_last raw further c made checked short = (refl, (made, refl), (checked, short))
 
 -- a rule on the plan file fails
 pub audit_refused : (raw : RawNet) (further : List ℕ) (f : ReadFault)

@@ -3,7 +3,10 @@ pub mod BreakFacts
 pub mod CaseFacts
 pub mod ExactFacts
 pub mod HeadlineFacts
-pub mod LeastFacts
+pub mod PutFacts
+pub mod SolveFacts
+pub mod StatusFacts
+pub mod WrittenFacts
 pub mod ProblemFacts
 pub mod ReadFacts
 pub mod ReportFacts

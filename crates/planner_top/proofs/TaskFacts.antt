@@ -1,5 +1,5 @@
 -- What words and files ask to be done is one thing.
-use Rattle.std.proofs.Common.{◌≡◌, ℕ, List, [], ◌∷◌, length, map, Option, Some, None, Result, Ok, Err, refl, sym, subst, ap, ◌∙◌}
+use Rattle.std.proofs.Common.{◌≡◌, ℕ, List, [], ◌∷◌, length, Option, Some, None, Result, Ok, Err, refl, sym, subst, ap, ◌∙◌}
 use Rattle.std.specs.Option.{MatchOption}
 use Rattle.std.specs.Result.{MatchResult}
 use Rattle.std.proofs.lemmas.List.{length-map}
@@ -39,6 +39,7 @@ use Rattle.planner_top.specs.Answers.{IsAskedProblem, IsProblem}
 one_last : (c : Command) (raw : RawNet) (further : List ℕ) (a b : Option FileFault) → IsLastFault c raw further a → IsLastFault c raw further b → a ≡ b
 one_last command.Solve raw further a b is also = is.2 ∙ ap (λ (f : Forest). loop_fault raw f.dropped) (sym (is.1.only also.0 also.1.forest)) ∙ sym also.2
 one_last command.Audit raw further a b is also = is ∙ sym also
+one_last command.Check raw further a b is also = is ∙ sym also
 
 one_behind : (c : Command) (raw : RawNet) (further : List ℕ) (before a b : Option FileFault)
     → MatchOption before (IsLastFault c raw further a) (λ f. a ≡ Some f) → MatchOption before (IsLastFault c raw further b) (λ f. b ≡ Some f) → a ≡ b
@@ -69,10 +70,20 @@ one_task_from command.Solve raw further (task.Solve d f) (task.Solve e g) read n
     ap (λ (x : Checked). task.Solve x f) (one_network_of raw d e read none is.0 also.0) ∙ ap (task.Solve e) (sym (is.1.only g also.1.forest))
 one_task_from command.Audit raw further (task.Audit d p) (task.Audit e q) read none is also =
     ap (λ (x : Checked). task.Audit x p) (one_network_of raw d e read none is.0 also.0) ∙ ap (task.Audit e) (is.1 ∙ sym also.1)
+one_task_from command.Check raw further (task.Check d a) (task.Check e b) read none is also =
+    ap (λ (x : Checked). task.Check x a) (one_network_of raw d e read none is.0 also.0) ∙ ap (task.Check e) (is.1 ∙ sym also.1)
 one_task_from command.Solve raw further (task.Audit d p) u read none is also = absurd is
+one_task_from command.Solve raw further (task.Check d a) u read none is also = absurd is
 one_task_from command.Audit raw further (task.Solve d f) u read none is also = absurd is
+one_task_from command.Audit raw further (task.Check d a) u read none is also = absurd is
+one_task_from command.Check raw further (task.Solve d f) u read none is also = absurd is
+one_task_from command.Check raw further (task.Audit d p) u read none is also = absurd is
 one_task_from command.Solve raw further (task.Solve d f) (task.Audit e q) read none is also = absurd also
+one_task_from command.Solve raw further (task.Solve d f) (task.Check e b) read none is also = absurd also
 one_task_from command.Audit raw further (task.Audit d p) (task.Solve e g) read none is also = absurd also
+one_task_from command.Audit raw further (task.Audit d p) (task.Check e b) read none is also = absurd also
+one_task_from command.Check raw further (task.Check d a) (task.Solve e g) read none is also = absurd also
+one_task_from command.Check raw further (task.Check d a) (task.Audit e q) read none is also = absurd also
 
 -- what a command does with files is one thing
 one_task : (c : Command) (horizon : ℕ) (contents : Contents) (a b : Result Task Stop) → IsTask c horizon contents a → IsTask c horizon contents b → a ≡ b
@@ -107,8 +118,13 @@ one_problem words m a b is also = one_asked (asked_of words) m a b is also
 pub own_task : (c : Command) (raw : RawNet) (further : List ℕ) (t : Task) → IsTaskFrom c raw further t → IsTaskOf c t
 own_task command.Solve raw further (task.Solve d f) is = tt
 own_task command.Audit raw further (task.Audit d p) is = tt
+own_task command.Check raw further (task.Check d a) is = tt
 own_task command.Solve raw further (task.Audit d p) is = absurd is
+own_task command.Solve raw further (task.Check d a) is = absurd is
 own_task command.Audit raw further (task.Solve d f) is = absurd is
+own_task command.Audit raw further (task.Check d a) is = absurd is
+own_task command.Check raw further (task.Solve d f) is = absurd is
+own_task command.Check raw further (task.Audit d p) is = absurd is
 
 -- the network of records has as many stages as they
 pub stages_are : (raw : RawNet) (c : Checked) → IsNetworkOf raw c → IsChecked c → length c.network.stages ≡ length raw.stages

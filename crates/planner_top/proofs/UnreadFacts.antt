@@ -1,9 +1,8 @@
 -- Where the further file of a request was not read, the three before it were.
-use Rattle.std.proofs.Common.{◌≡◌, ℕ, ◌<◌, ◌≤◌, Bool, true, false, List, [], ◌∷◌, length, Option, Some, None, Ok, Err, refl, sym, subst, ap, ◌∙◌, arith, nat_lt, ltb}
+use Rattle.std.proofs.Common.{◌≡◌, ℕ, ◌≤◌, false, List, length, Option, Some, None, Ok, Err, refl, subst, ◌∙◌, arith, ltb}
 use Rattle.std.specs.Option.{IfSome}
 use Rattle.std.proofs.lemmas.Bool.Decides.{nat_tests}
 use Rattle.gsm_outside.specs.Held.{Held, file_bytes}
-use Rattle.gsm_outside.specs.Causes.{Rose}
 use Rattle.planner_top.specs.declared.files.TheConstants.{FILE_LIMIT}
 use Rattle.planner_top.specs.declared.stop.FileWord.{FileWord}
 use Rattle.planner_top.specs.declared.stop.FileWord.TheVariants as file
@@ -13,15 +12,15 @@ use Rattle.planner_top.specs.declared.stop.Unsolved.TheVariants as unsolved
 use Rattle.planner_top.specs.Asked.{Asked}
 use Rattle.planner_top.specs.Commands.{further_file}
 use Rattle.planner_top.specs.Reading.{WhereTold, ReadCase}
-use Rattle.planner_top.specs.Contents.{long_if, further_long, too_long_of, longer_before, IsFileOf, IsUnread, FurtherCase, FilesCase}
+use Rattle.planner_top.specs.Contents.{limit_of, long_if, further_long, too_long_of, longer_before, IsFileOf, FurtherCase, FilesCase}
 
-small : (n : ℕ) → n ≤ FILE_LIMIT → ltb FILE_LIMIT n ≡ false
-small n le = grind (arith, nat_tests)
+small : (limit n : ℕ) → n ≤ limit → ltb limit n ≡ false
+small limit n le = grind (arith, nat_tests)
 
-not_long : (word : FileWord) (bytes file : List ℕ) → length bytes ≤ FILE_LIMIT → bytes ≡ file → long_if word file ≡ None
+not_long : (word : FileWord) (bytes file : List ℕ) → length bytes ≤ limit_of word → bytes ≡ file → long_if word file ≡ None
 not_long word bytes file short same =
-    let within : length file ≤ FILE_LIMIT = subst (λ (xs : List ℕ). length xs ≤ FILE_LIMIT) same short in
-    rw (small (length file) within) refl
+    let within : length file ≤ limit_of word = subst (λ (xs : List ℕ). length xs ≤ limit_of word) same short in
+    rw (small (limit_of word) (length file) within) refl
 
 -- the three files of a network are not too long, where the shelf tells
 abbrev AreShortIn : Asked → Held → Type 0
@@ -39,6 +38,7 @@ file_of q file.Stages is = tt
 file_of q file.Tables is = tt
 file_of q file.Arcs is = tt
 file_of q file.Plan is = is
+file_of q file.Cert is = is
 
 none_before : (q : Asked) (held : Option Held) (word : FileWord) → IfSome held (λ m. AreShortIn q m) → IfSome held (λ m. longer_before q m word ≡ None)
 none_before q None word short = tt
@@ -46,6 +46,7 @@ none_before q (Some m) file.Stages short = refl
 none_before q (Some m) file.Tables short = short.0
 none_before q (Some m) file.Arcs short = rw (short.0, short.1) refl
 none_before q (Some m) file.Plan short = rw (short.0, short.1, short.2) refl
+none_before q (Some m) file.Cert short = rw (short.0, short.1, short.2) refl
 
 too_long : (q : Asked) (held : Option Held) (word : FileWord) → IfSome held (λ m. AreShortIn q m) → IfSome held (λ m. further_long (further_file q.command) (file_bytes m q.further) ≡ Some word)
     → IfSome held (λ m. too_long_of q m ≡ Some word)

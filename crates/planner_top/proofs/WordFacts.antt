@@ -8,8 +8,7 @@ use Rattle.service_model.proofs.SearchFacts.{first_below_step, first_below_found
 use Rattle.planner_top.specs.declared.command.Command.{Command}
 use Rattle.planner_top.specs.declared.command.Key.{Key}
 use Rattle.planner_top.specs.Commands.{key_text}
-use Rattle.planner_top.specs.Words.{texts, is_keyed, value_in, later_rules, fault_at, later_fault_at}
-use Rattle.planner_top.specs.Asked.{value_at}
+use Rattle.planner_top.specs.Words.{texts, is_keyed, value_in, value_at, later_rules, fault_at, later_fault_at}
 
 -- a test of a list's images
 pub any_mapped : {X Y : Type 0} (f : X → Y) (p : Y → Bool) (xs : List X) → list_any (λ x. p (f x)) xs ≡ list_any p (map f xs)

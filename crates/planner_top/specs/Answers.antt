@@ -1,22 +1,25 @@
 -- What a run answers to its words and files, where no call on the outside failed and memory sufficed.
-use Rattle.std.specs.Prelude.{◌≡◌, ◌≤◌, ◌↔◌, ℕ, List, [], ◌∷◌, length, Option, Some, Result, Ok, Err, IsErr, MatchResult, MatchOption, IfSome, ⊤}
+use Rattle.std.specs.Prelude.{◌≡◌, ◌≤◌, ◌↔◌, ℕ, List, [], ◌∷◌, length, Option, Some, None, Result, Ok, Err, IsErr, MatchResult, MatchOption, IfSome, ⊤}
 use Rattle.service_model.specs.declared.plan.Plan.{Plan}
 use Rattle.service_model.specs.declared.breaks.Break.{Break}
 use Rattle.service_model.specs.Plans.{Feasible, Least, Empty}
+use Rattle.service_model.specs.declared.cert.Verdict.{Verdict}
 use Rattle.service_model.specs.Breaks.{first_break_of}
+use Rattle.service_model.specs.Verdicts.{IsTrueOf}
+use Rattle.cert_check.specs.Bytes.{IsAcceptedBytes, IsRefusedBytes}
 use Rattle.gsm_outside.specs.Held.{Held}
 use Rattle.network_check.specs.declared.checked.Checked.{Checked}
 use Rattle.planner_top.specs.Asked.{Asked, asked_of}
 use Rattle.planner_top.specs.Contents.{too_long_of, contents_of}
 use Rattle.planner_top.specs.Tasks.{IsTask}
-use Rattle.planner_top.specs.Texts.{plan_rows, infeasible_rows, audit_rows, broken_row, stop_row}
+use Rattle.planner_top.specs.Texts.{plan_rows, infeasible_rows, audit_rows, broken_row, valid_row, not_accepted_row, stop_row}
+use Rattle.planner_top.specs.Certificates.{optimal_with, infeasible, IsShown}
 use Rattle.planner_top.specs.declared.filled.TheConstants.{MOST_FILLED}
 use Rattle.planner_top.specs.declared.command.Command.{Command}
 use Rattle.planner_top.specs.declared.command.Command.TheVariants as command
 use Rattle.planner_top.specs.declared.word_fault.WordFault.{WordFault}
 use Rattle.planner_top.specs.declared.task.Task.{Task}
 use Rattle.planner_top.specs.declared.task.Task.TheVariants as task
-use Rattle.planner_top.specs.declared.stop.FileWord.{FileWord}
 use Rattle.planner_top.specs.declared.stop.Stop.{Stop}
 use Rattle.planner_top.specs.declared.stop.Stop.TheVariants as stop
 use Rattle.planner_top.specs.declared.answer.Ending.{Ending}
@@ -38,15 +41,18 @@ ending_of (stop.TooLong word) = ending.TooLong
 ending_of (stop.Refused fault) = ending.Refused
 
 -- a refusal, with its line
-abbrev pub IsRefusal : Ending → List (List (List ℕ)) → ℕ → Stop → Type 0
-IsRefusal e rows filled s = (e ≡ ending_of s) × (rows ≡ stop_row s ∷ []) × (filled ≡ 0)
+abbrev pub IsRefusal : Ending → List (List (List ℕ)) → ℕ → Option (List ℕ) → Stop → Type 0
+IsRefusal e rows filled cert s = (e ≡ ending_of s) × (rows ≡ stop_row s ∷ []) × (filled ≡ 0) × (cert ≡ None)
 
--- the solution of a network, with its lines: a least plan, or none where no plan is feasible; a table was filled for each stage
-abbrev pub IsSolution : Ending → List (List (List ℕ)) → ℕ → Checked → Type 0
-IsSolution ending.Done rows filled c =
+-- the solution of a network, with its lines: a least plan, or none where no plan is feasible; a table was filled for each stage,
+-- and an accepted certificate shows what the lines tell
+abbrev pub IsSolution : Ending → List (List (List ℕ)) → ℕ → Option (List ℕ) → Checked → Type 0
+IsSolution ending.Done rows filled cert c =
     (plan : Plan) × Least c.network plan × (rows ≡ plan_rows c plan filled) × (filled ≡ length c.network.stages)
-IsSolution ending.Infeasible rows filled c = Empty c.network × (rows ≡ infeasible_rows filled) × (filled ≡ length c.network.stages)
-IsSolution _ rows filled c = ⊥
+    × IsShown c.network cert (optimal_with c.network plan)
+IsSolution ending.Infeasible rows filled cert c =
+    Empty c.network × (rows ≡ infeasible_rows filled) × (filled ≡ length c.network.stages) × IsShown c.network cert infeasible
+IsSolution _ rows filled cert c = ⊥
 
 -- the audit of a plan, with its lines: it is feasible, or the first rule that it breaks
 abbrev pub IsAudit : Ending → List (List (List ℕ)) → Checked → Plan → Type 0
@@ -55,23 +61,37 @@ IsAudit ending.NotFeasible rows c plan =
     (¬ Feasible c.network plan) × ((broken : Break) × (first_break_of c.network plan ≡ Some broken) × (rows ≡ broken_row c broken ∷ []))
 IsAudit _ rows c plan = ⊥
 
--- a task that is done, with its lines and the number of tables that were filled for it
-abbrev pub IsDone : Ending → List (List (List ℕ)) → ℕ → Task → Type 0
-IsDone e rows filled (task.Solve c f) = IsSolution e rows filled c
-IsDone e rows filled (task.Audit c plan) = IsAudit e rows c plan × (filled ≡ 0)
+-- the check of a certificate, with its line: it is accepted with a verdict, which is true of the network, or a rule fails on a line
+abbrev pub IsCheck : Ending → List (List (List ℕ)) → Checked → List ℕ → Type 0
+IsCheck ending.Done rows c bytes =
+    (v : Verdict) × IsAcceptedBytes c.network bytes v × IsTrueOf c.network v × (rows ≡ valid_row c.network v ∷ [])
+IsCheck ending.NotAccepted rows c bytes =
+    (line : ℕ) × (rule : ℕ) × IsRefusedBytes c.network bytes line rule × (rows ≡ not_accepted_row line rule ∷ [])
+IsCheck _ rows c bytes = ⊥
+
+-- a task that is done, with its lines, the number of tables that were filled for it and the bytes of the certificate that was made
+abbrev pub IsDone : Ending → List (List (List ℕ)) → ℕ → Option (List ℕ) → Task → Type 0
+IsDone e rows filled cert (task.Solve c f) = IsSolution e rows filled cert c
+IsDone e rows filled cert (task.Audit c plan) = IsAudit e rows c plan × (filled ≡ 0) × (cert ≡ None)
+IsDone e rows filled cert (task.Check c bytes) = IsCheck e rows c bytes × (filled ≡ 0) × (cert ≡ None)
 
 -- a command may end so
 abbrev pub MayEnd : Command → Ending → Type 0
 MayEnd command.Solve ending.NotFeasible = ⊥
+MayEnd command.Solve ending.NotAccepted = ⊥
 MayEnd command.Audit ending.Infeasible = ⊥
+MayEnd command.Audit ending.NotAccepted = ⊥
+MayEnd command.Check ending.Infeasible = ⊥
+MayEnd command.Check ending.NotFeasible = ⊥
 MayEnd _ _ = ⊤
 
--- an ending with its rows and the number of tables that were filled is the answer to words and to what a shelf holds, where the shelf tells
-pub record IsAnswer (said : List (List ℕ)) (held : Option Held) (e : Ending) (rows : List (List (List ℕ))) (filled : ℕ) : Type 0 where
+-- an ending with its rows, the number of tables that were filled and the certificate that was made is the answer to words and to what
+-- a shelf holds, where the shelf tells
+pub record IsAnswer (said : List (List ℕ)) (held : Option Held) (e : Ending) (rows : List (List (List ℕ))) (filled : ℕ) (cert : Option (List ℕ)) : Type 0 where
   -- the words are refused exactly where a rule on them fails, and by the line of the first that does
   pub words : (e ≡ ending.Words) ↔ IsErr (asked_of said)
   pub rule : (fault : WordFault) → asked_of said ≡ Err fault → rows ≡ stop_row (stop.Words fault) ∷ []
   pub own : (q : Asked) → asked_of said ≡ Ok q → MayEnd q.command e
   pub few : filled ≤ MOST_FILLED
   -- the refusal that the words and files ask for, or else what they ask to be done
-  pub told : IfSome held (λ m. (problem : Result Task Stop) × IsProblem said m problem × MatchResult problem (IsDone e rows filled) (IsRefusal e rows filled))
+  pub told : IfSome held (λ m. (problem : Result Task Stop) × IsProblem said m problem × MatchResult problem (IsDone e rows filled cert) (IsRefusal e rows filled cert))

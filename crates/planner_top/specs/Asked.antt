@@ -1,29 +1,26 @@
 -- What the words of a command line ask for.
-use Rattle.std.specs.Prelude.{ℕ, List, [], ◌∷◌, drop, Option, Some, None, Result, Ok, Err, unwrap_or, find}
+use Rattle.std.specs.Prelude.{ℕ, List, [], ◌∷◌, drop, Option, Some, None, Result, Ok, Err, unwrap_or, if◌then◌else◌}
 use Rattle.service_model.specs.declared.limits.TheConstants.{MAX_HORIZON}
 use Rattle.gsm_nums.specs.Whole.{whole_of, without_spaces}
 use Rattle.gsm_nums.specs.declared.whole.NumFault.{NumFault}
 use Rattle.planner_top.specs.declared.command.Command.{Command}
 use Rattle.planner_top.specs.declared.command.Command.TheVariants.{Solve}
-use Rattle.planner_top.specs.declared.command.Key.{Key}
 use Rattle.planner_top.specs.declared.command.Key.TheVariants.{Stages, Tables, Arcs, Horizon}
 use Rattle.planner_top.specs.declared.word_fault.WordFault.{WordFault}
 use Rattle.planner_top.specs.declared.stop.FileWord.{FileWord}
-use Rattle.planner_top.specs.Commands.{key_text, command_named, file_key, further_file}
-use Rattle.planner_top.specs.Words.{value_in, is_keyed, word_fault}
+use Rattle.planner_top.specs.Commands.{key_text, command_named, file_key, further_file, written_file}
+use Rattle.planner_top.specs.Words.{has_key, value_at, word_fault}
 
--- a command, the names of the three files of a network and of the command's further file, if it has one, and a horizon
+-- a command, the names of the three files of a network, of the command's further file, if it has one, and of the certificate
+-- that is to be written, if one is asked for, and a horizon
 pub record Asked : Type 0 where
   pub command : Command
   pub stages : List ℕ
   pub tables : List ℕ
   pub arcs : List ℕ
   pub further : List ℕ
+  pub cert : Option (List ℕ)
   pub horizon : ℕ
-
--- the value of the first word that has the key
-unfoldable pub value_at : Key → List (List ℕ) → List ℕ
-value_at key later = value_in (unwrap_or (find (is_keyed (key_text key)) later) [])
 
 abbrev pub or_zero : Result ℕ NumFault → ℕ
 or_zero (Ok n) = n
@@ -38,6 +35,11 @@ abbrev pub further_name : Option FileWord → List (List ℕ) → List ℕ
 further_name None later = []
 further_name (Some word) later = value_at (file_key word) later
 
+-- the name of the file that a command writes, where its key is given
+abbrev pub written_name : Option FileWord → List (List ℕ) → Option (List ℕ)
+written_name None later = None
+written_name (Some word) later = if has_key later (key_text (file_key word)) then Some (value_at (file_key word) later) else None
+
 -- what a command and the words behind it ask for
 abbrev pub asked_by : Command → List (List ℕ) → Asked
 asked_by command later = record {
@@ -46,6 +48,7 @@ asked_by command later = record {
   tables = value_at Tables later;
   arcs = value_at Arcs later;
   further = further_name (further_file command) later;
+  cert = written_name (written_file command) later;
   horizon = number_to MAX_HORIZON (value_at Horizon later);
 }
 
@@ -61,3 +64,11 @@ command_of (word ∷ later) = unwrap_or (command_named word) Solve
 -- what words ask for, or the first rule on words that fails
 unfoldable pub asked_of : List (List ℕ) → Result Asked WordFault
 asked_of words = unless_fault (word_fault words) (asked_by (command_of words) (drop 1 words))
+
+abbrev pub cert_in : Result Asked WordFault → Option (List ℕ)
+cert_in (Ok q) = q.cert
+cert_in (Err fault) = None
+
+-- the name of the certificate that words ask for, if they do and no rule on them fails
+abbrev pub cert_name : List (List ℕ) → Option (List ℕ)
+cert_name words = cert_in (asked_of words)

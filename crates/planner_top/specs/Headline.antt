@@ -1,28 +1,32 @@
 -- The promise of the top call.
-use Rattle.std.specs.Prelude.{◌≡◌, ◌≢◌, ◌↔◌, ℕ, List, Some, Ok, Err}
+use Rattle.std.specs.Prelude.{◌≡◌, ◌≢◌, ◌↔◌, ◌⊎◌, ℕ, List, Some, None, Ok, Err}
 use Rattle.stage_file.specs.declared.fault.FileFault.{FileFault}
 use Rattle.tree_order.specs.declared.forest.Forest.{Forest}
 use Rattle.network_check.specs.declared.checked.Checked.{Checked}
 use Rattle.gsm_outside.specs.Held.{Held}
 use Rattle.gsm_outside.specs.Causes.{Rose}
 use Rattle.service_model.specs.declared.plan.Plan.{Plan}
+use Rattle.service_model.specs.declared.cert.Verdict.{Verdict}
 use Rattle.service_model.specs.Plans.{Feasible, Least, Empty}
+use Rattle.cert_check.specs.Bytes.{IsAcceptedBytes, IsRefusedBytes}
 use Rattle.planner_top.specs.Answers.{IsProblem}
-use Rattle.planner_top.specs.Runs.{Run, IsLater, Answered, FailedRead, PartPrinted, status_of}
+use Rattle.planner_top.specs.Asked.{cert_name}
+use Rattle.planner_top.specs.Certificates.{KeepsOthers}
+use Rattle.planner_top.specs.Runs.{Run, IsLater, Answered, FailedRead, IsUnwritten, PrintsFront, IsLeft, status_of}
 use Rattle.planner_top.specs.declared.task.Task.{Task}
 use Rattle.planner_top.specs.declared.task.Task.TheVariants as task
 use Rattle.planner_top.specs.declared.word_fault.WordFault.{WordFault}
 use Rattle.planner_top.specs.declared.stop.FileWord.{FileWord}
-use Rattle.planner_top.specs.declared.stop.Stop.{Stop}
 use Rattle.planner_top.specs.declared.stop.Stop.TheVariants as stop
 use Rattle.planner_top.specs.declared.answer.Ending.{Ending}
 use Rattle.planner_top.specs.declared.answer.Ending.TheVariants as ending
 use Rattle.planner_top.specs.declared.status.Status.TheVariants as status
 
--- a task that can be done: there is a least plan, or the plan is feasible
+-- a task that can be done: there is a least plan, the plan is feasible, or the certificate is accepted
 abbrev pub CanBeDone : Task → Type 0
 CanBeDone (task.Solve c f) = (plan : Plan) × Least c.network plan
 CanBeDone (task.Audit c plan) = Feasible c.network plan
+CanBeDone (task.Check c bytes) = (v : Verdict) × IsAcceptedBytes c.network bytes v
 
 -- which ending comes exactly where, by what words and files ask to be done, or their refusal
 pub record Exactly (said : List (List ℕ)) (m : Held) (e : Ending) : Type 0 where
@@ -30,29 +34,37 @@ pub record Exactly (said : List (List ℕ)) (m : Held) (e : Ending) : Type 0 whe
   pub too_long : (e ≡ ending.TooLong) ↔ ((word : FileWord) × IsProblem said m (Err (stop.TooLong word)))
   pub refused : (e ≡ ending.Refused) ↔ ((fault : FileFault) × IsProblem said m (Err (stop.Refused fault)))
   pub infeasible : (e ≡ ending.Infeasible) ↔ ((c : Checked) × (f : Forest) × IsProblem said m (Ok (task.Solve c f)) × Empty c.network)
+  pub not_accepted :
+      (e ≡ ending.NotAccepted)
+      ↔ ((c : Checked) × (bytes : List ℕ) × IsProblem said m (Ok (task.Check c bytes)) × ((line : ℕ) × (rule : ℕ) × IsRefusedBytes c.network bytes line rule))
   pub not_feasible : (e ≡ ending.NotFeasible) ↔ ((c : Checked) × (plan : Plan) × IsProblem said m (Ok (task.Audit c plan)) × (¬ Feasible c.network plan))
   pub done : (e ≡ ending.Done) ↔ ((t : Task) × IsProblem said m (Ok t) × CanBeDone t)
 
 -- no call on the outside failed, and memory sufficed
 pub record IsSure (r : Run) : Type 0 where
   pub reads : ¬ Rose r.reads r.reads_after
-  pub writes : ¬ Rose r.faults r.faults_after
+  pub writes : ¬ Rose r.writes r.writes_after
+  pub puts : ¬ Rose r.faults r.faults_after
   pub memory : r.status ≢ status.NoMemory
 
 pub record Headline (r : Run) : Type 0 where
-  -- whatever the status, the shelf holds what it held, no write to it failed, no count falls, and that of filled tables keeps its room
-  pub shelf : r.held_after ≡ r.held
-  pub writes : r.writes_after ≡ r.writes
+  -- whatever the status, the shelf holds what it held, but for the certificate that the words ask for: where they ask for none, no
+  -- write to it failed
+  pub shelf : KeepsOthers (cert_name r.words) r.held r.held_after
+  pub writes : cert_name r.words ≡ None → r.writes_after ≡ r.writes
+  -- no count falls, and that of filled tables keeps its room
   pub later : IsLater r
   -- where no call failed and memory sufficed there is an answer
   pub complete : IsSure r → (e : Ending) × (r.status ≡ status_of e)
-  -- no other status comes, whatever failed
-  pub never : (r.status ≢ status.Spent) × (r.status ≢ status.NotAccepted)
-  -- an answer is true of the words and files where the shelf tells, its lines follow what was written, and no call failed
+  -- no budget is spent yet, whatever failed
+  pub never : r.status ≢ status.Spent
+  -- an answer is true of the words and files where the shelf tells, its lines follow what was written, its certificate is on the shelf
+  -- where the words ask for it, and no call failed
   pub answer : (e : Ending) → r.status ≡ status_of e → Answered r e
   -- and it comes exactly where its cause is, on a shelf that tells what it holds
   pub exact : (e : Ending) (m : Held) → r.status ≡ status_of e → r.held ≡ Some m → Exactly r.words m e
-  -- a read fault comes only where a read failed, a write fault only where a write failed; what each leaves
+  -- a read fault comes only where a read failed, a write fault only where a write of the certificate or of the output failed; what each
+  -- leaves
   pub read_fault : r.status ≡ status.ReadFault → FailedRead r
-  pub write_fault : r.status ≡ status.WriteFault → Rose r.faults r.faults_after × PartPrinted r
-  pub no_memory : r.status ≡ status.NoMemory → PartPrinted r
+  pub write_fault : r.status ≡ status.WriteFault → (Rose r.faults r.faults_after ⊎ IsUnwritten r) × PrintsFront r
+  pub no_memory : r.status ≡ status.NoMemory → IsLeft r

@@ -7,6 +7,7 @@ pub mod Reading
 pub mod Contents
 pub mod Tasks
 pub mod Texts
+pub mod Certificates
 pub mod Reports
 pub mod Answers
 pub mod Problems

@@ -5,7 +5,8 @@ use Rattle.gsm_outside.specs.Causes.{Rose}
 use Rattle.planner_top.specs.Asked.{Asked, asked_of}
 use Rattle.planner_top.specs.Contents.{IsUnread}
 use Rattle.planner_top.specs.Tasks.{IsReady}
-use Rattle.planner_top.specs.Answers.{IsAskedProblem, IsProblem, MayEnd, IsAnswer}
+use Rattle.planner_top.specs.Certificates.{bytes_in}
+use Rattle.planner_top.specs.Answers.{IsAskedProblem, IsProblem, IsAnswer}
 use Rattle.planner_top.specs.declared.filled.TheConstants.{MOST_FILLED}
 use Rattle.planner_top.specs.declared.command.Command.{Command}
 use Rattle.planner_top.specs.declared.command.Command.TheVariants as command
@@ -34,6 +35,7 @@ IsUnreadOf words held word = (q : Asked) × (asked_of words ≡ Ok q) × IsUnrea
 abbrev pub IsTaskOf : Command → Task → Type 0
 IsTaskOf command.Solve (task.Solve c f) = ⊤
 IsTaskOf command.Audit (task.Audit c plan) = ⊤
+IsTaskOf command.Check (task.Check c bytes) = ⊤
 IsTaskOf _ _ = ⊥
 
 -- what a request asks to be done, or why there is nothing to do
@@ -56,7 +58,7 @@ ProblemCase words held before now (Err unsolved.NoMemory) = before ≤ now
 -- the answer to the words, or why there is none, with the count of filled tables before and after
 abbrev pub AnswerCase : List (List ℕ) → Option Held → ℕ → ℕ → ℕ → ℕ → Result Answer Unanswered → Type 0
 AnswerCase words held before now ticks ticked (Ok a) =
-    (now ≡ before) × ((filled : ℕ) × (ticked ≡ ticks + filled) × IsAnswer words held a.ending a.rows filled)
+    (now ≡ before) × ((filled : ℕ) × (ticked ≡ ticks + filled) × IsAnswer words held a.ending a.rows filled (bytes_in a.cert))
 AnswerCase words held before now ticks ticked (Err (unanswered.Fault word)) =
     (before ≤ now) × Rose before now × IsUnreadOf words held word × (ticked ≡ ticks)
 AnswerCase words held before now ticks ticked (Err unanswered.NoMemory) =

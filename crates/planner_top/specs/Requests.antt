@@ -1,5 +1,5 @@
 -- A request as the code holds it, as what is asked.
-use Rattle.std.specs.Prelude.{◌≡◌, ◌≤◌, ℕ, List, Result, Ok, Err}
+use Rattle.std.specs.Prelude.{◌≡◌, ◌≤◌, ℕ, List, Result, Ok, Err, option_map}
 use Rattle.service_model.specs.declared.limits.TheConstants.{MAX_HORIZON}
 use Rattle.planner_top.specs.Asked.{Asked, asked_of}
 use Rattle.planner_top.specs.declared.asked.Request.{Request}
@@ -12,6 +12,7 @@ request_as r = record {
   tables = r.tables.now;
   arcs = r.arcs.now;
   further = r.further.now;
+  cert = option_map (λ name. name.now) r.cert;
   horizon = r.horizon;
 }
 

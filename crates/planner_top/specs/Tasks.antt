@@ -1,5 +1,5 @@
 -- What a request asks to be done with the network of its files, or the first rule on files that fails.
-use Rattle.std.specs.Prelude.{◌≡◌, ℕ, List, [], ◌∷◌, length, slice_index_or, Option, Some, None, MatchOption, Result, Ok, Err, ⊤}
+use Rattle.std.specs.Prelude.{◌≡◌, ◌≤◌, ℕ, List, [], ◌∷◌, length, slice_index_or, Option, Some, None, MatchOption, Result, Ok, Err, ⊤}
 use Rattle.service_model.specs.Plans.{HasTimes}
 use Rattle.stage_file.specs.declared.arcs.ArcRow.{ArcRow}
 use Rattle.stage_file.specs.declared.raw.Files.{Files}
@@ -18,6 +18,7 @@ use Rattle.tree_order.specs.Forest.{IsForest, IsOnlyForest}
 use Rattle.network_check.specs.Checked.{supply_arcs, IsNetworkOf, IsChecked}
 use Rattle.network_check.specs.Refusals.{IsFirstTogether, IsFirstRefusal}
 use Rattle.planner_top.specs.declared.not_yet.TheConstants.{LOOP_NOT_YET}
+use Rattle.planner_top.specs.declared.files.TheConstants.{CERT_LIMIT}
 use Rattle.planner_top.specs.declared.command.Command.{Command}
 use Rattle.planner_top.specs.declared.command.Command.TheVariants as command
 use Rattle.planner_top.specs.declared.contents.Contents.{Contents}
@@ -27,7 +28,6 @@ use Rattle.planner_top.specs.declared.stop.Stop.{Stop}
 use Rattle.planner_top.specs.declared.stop.Stop.TheVariants as stop
 use Rattle.planner_top.specs.declared.stop.Unsolved.{Unsolved}
 use Rattle.planner_top.specs.declared.stop.Unsolved.TheVariants as unsolved
-use Rattle.planner_top.specs.Asked.{Asked}
 
 -- the rows of the three files of a network
 abbrev pub files_in : Contents → Files
@@ -54,12 +54,14 @@ pub record IsForestIn (raw : RawNet) (f : Forest) : Type 0 where
 abbrev pub IsLastFault : Command → RawNet → List ℕ → Option FileFault → Type 0
 IsLastFault command.Solve raw further fault = (f : Forest) × IsForestIn raw f × (fault ≡ loop_fault raw f.dropped)
 IsLastFault command.Audit raw further fault = fault ≡ plan_file_fault (names_of raw.stages) (rows_of_bytes further)
+IsLastFault command.Check raw further fault = fault ≡ None
 
 -- what a command does with the network of records, and its further file
 abbrev pub IsTaskFrom : Command → RawNet → List ℕ → Task → Type 0
 IsTaskFrom command.Solve raw further (task.Solve c f) = IsNetworkOf raw c × IsForestIn raw f
 IsTaskFrom command.Audit raw further (task.Audit c plan) =
     IsNetworkOf raw c × (plan ≡ plan_of (names_of raw.stages) (rows_of_bytes further))
+IsTaskFrom command.Check raw further (task.Check c bytes) = IsNetworkOf raw c × (bytes ≡ further)
 IsTaskFrom _ raw further _ = ⊥
 
 -- the records of the files of a network
@@ -82,6 +84,7 @@ IsTask command horizon c (Err _) = ⊥
 abbrev pub IsReady : Task → Type 0
 IsReady (task.Solve c f) = IsChecked c × IsForest (length c.network.stages) c.network.arcs f × (f.dropped ≡ [])
 IsReady (task.Audit c plan) = IsChecked c × HasTimes c.network plan
+IsReady (task.Check c bytes) = IsChecked c × (length bytes ≤ CERT_LIMIT)
 
 -- what a call gives that finds the task of records on which no rule on the network fails
 abbrev pub LastCase : Command → RawNet → List ℕ → Result Task Unsolved → Type 0

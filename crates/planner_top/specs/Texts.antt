@@ -1,10 +1,13 @@
 -- The texts that a run prints, as rows that `csv` writes.
-use Rattle.std.specs.Prelude.{ℕ, ◌+◌, ◌-◌, ◌*◌, ◌==◌, List, [], ◌∷◌, ◌++◌, length, map, slice_index, codes, decimal, flat_map, if◌then◌else◌}
+use Rattle.std.specs.Prelude.{ℕ, ◌+◌, ◌-◌, ◌*◌, ◌==◌, List, [], ◌∷◌, ◌++◌, length, map, slice_index, codes, decimal, flat_map, Option, Some, None, if◌then◌else◌}
 use Rattle.std.specs.List.{range_with_len}
 use Rattle.csv.specs.Writing.{row_text, default_writer}
 use Rattle.service_model.specs.declared.plan.Plan.{Plan}
 use Rattle.service_model.specs.declared.breaks.Break.{Break}
 use Rattle.service_model.specs.declared.breaks.TheConstants.{NOT_WAITED}
+use Rattle.service_model.specs.declared.cert.Outcome.{Outcome}
+use Rattle.service_model.specs.declared.cert.Outcome.TheVariants.{Optimal, Infeasible, Spent}
+use Rattle.service_model.specs.declared.cert.Verdict.{Verdict}
 use Rattle.service_model.specs.Net.{Net, stage_at, arc_in}
 use Rattle.service_model.specs.Plans.{inbound_at, outbound_at, cost_of}
 use Rattle.stage_file.specs.declared.fault.FileFault.{FileFault}
@@ -12,6 +15,7 @@ use Rattle.stage_file.specs.declared.fault.FileKind.{FileKind}
 use Rattle.stage_file.specs.declared.fault.FileKind.TheVariants as kind
 use Rattle.network_check.specs.declared.checked.Checked.{Checked}
 use Rattle.network_check.specs.Checked.{name_at, unit_at, excess_at}
+use Rattle.cert_check.specs.declared.not_yet.TheConstants.{SPLIT_NOT_YET}
 use Rattle.planner_top.specs.declared.not_yet.TheConstants.{LOOP_NOT_YET}
 use Rattle.planner_top.specs.declared.word_fault.WordFault.{WordFault}
 use Rattle.planner_top.specs.declared.stop.FileWord.{FileWord}
@@ -80,11 +84,38 @@ broken_names c broken =
 abbrev pub broken_row : Checked → Break → List (List ℕ)
 broken_row c broken = codes "broken" ∷ (codes "B" ++ decimal broken.rule) ∷ broken_names c broken
 
+-- the cost of a plan, and a dash where there is none
+abbrev pub cost_text : Net → Option Plan → List ℕ
+cost_text n None = codes "-"
+cost_text n (Some p) = decimal (cost_of n p)
+
+-- what is printed for an accepted certificate whose search ended so: what the plan found costs, and where the budget was
+-- spent the bound before it
+abbrev pub valid_as : Outcome → Net → ℕ → Option Plan → List (List ℕ)
+valid_as Optimal n bound plan = codes "valid" ∷ codes "optimal" ∷ cost_text n plan ∷ []
+valid_as Infeasible n bound plan = codes "valid" ∷ codes "infeasible" ∷ []
+valid_as Spent n bound plan = codes "valid" ∷ codes "spent" ∷ decimal bound ∷ cost_text n plan ∷ []
+
+-- what is printed for a certificate that is accepted with a verdict
+abbrev pub valid_row : Net → Verdict → List (List ℕ)
+valid_row n v = valid_as v.outcome n v.bound v.plan
+
+-- a rule on certificates: `K` and its number, or the name of what is not checked yet
+unfoldable pub cert_rule_text : ℕ → List ℕ
+cert_rule_text rule =
+    if rule == SPLIT_NOT_YET then codes "SplitNotYet"
+    else codes "K" ++ decimal rule
+
+-- the rule that fails on a certificate, and the line on which it does
+abbrev pub not_accepted_row : ℕ → ℕ → List (List ℕ)
+not_accepted_row line rule = codes "not accepted" ∷ decimal line ∷ cert_rule_text rule ∷ []
+
 abbrev pub file_text : FileWord → List ℕ
 file_text file.Stages = codes "stages"
 file_text file.Tables = codes "tables"
 file_text file.Arcs = codes "arcs"
 file_text file.Plan = codes "plan"
+file_text file.Cert = codes "cert"
 
 abbrev pub kind_text : FileKind → List ℕ
 kind_text kind.Stages = codes "stages"
@@ -112,6 +143,10 @@ abbrev pub stop_row : Stop → List (List ℕ)
 stop_row (stop.Words fault) = word_row fault
 stop_row (stop.TooLong word) = codes "too long" ∷ file_text word ∷ []
 stop_row (stop.Refused fault) = refused_row fault
+
+-- what is printed where the certificate could not be written
+abbrev pub write_fault_row : List (List ℕ)
+write_fault_row = codes "write fault" ∷ codes "cert" ∷ []
 
 -- what is printed where a file could not be read
 abbrev pub fault_row : FileWord → List (List ℕ)

@@ -1,15 +1,17 @@
 -- The rules on the words of a command line, and the first that fails.
-use Rattle.std.specs.Prelude.{ℕ, ◌+◌, ◌==◌, Bool, not, false, List, [], ◌∷◌, length, take, map, slice_index_or, Option, Some, None, is_none, is_ok, option_map, bytes_eq, find, position, string_bytes, String, if◌then◌else◌}
+use Rattle.std.specs.Prelude.{ℕ, ◌+◌, ◌==◌, Bool, not, false, List, [], ◌∷◌, length, take, map, slice_index_or, Option, Some, None, is_none, is_ok, option_map, unwrap_or, ◌||◌, ◌&&◌, bytes_eq, find, position, string_bytes, String, if◌then◌else◌}
 use Rattle.std.specs.List.{list_any, before_first, after_first}
 use Rattle.service_model.specs.Search.{first_of, first_below}
 use Rattle.gsm_nums.specs.Whole.{whole_of, without_spaces}
 use Rattle.planner_top.specs.declared.command.Command.{Command}
 use Rattle.planner_top.specs.declared.command.Key.{Key}
+use Rattle.planner_top.specs.declared.command.Key.TheVariants.{Stages, Tables, Arcs}
 use Rattle.planner_top.specs.declared.command.ValueKind.{ValueKind}
 use Rattle.planner_top.specs.declared.command.ValueKind.TheVariants.{FileName, WholeNumber}
-use Rattle.planner_top.specs.declared.word_rules.TheConstants.{NO_WORD, NO_COMMAND, NO_EQUALS, UNKNOWN_KEY, KEY_TWICE, MISSING_KEY, BAD_VALUE}
+use Rattle.planner_top.specs.declared.word_rules.TheConstants.{NO_WORD, NO_COMMAND, NO_EQUALS, UNKNOWN_KEY, KEY_TWICE, MISSING_KEY, BAD_VALUE, NAME_REUSED}
 use Rattle.planner_top.specs.declared.word_fault.WordFault.{WordFault}
-use Rattle.planner_top.specs.Commands.{required_keys, further_keys, key_text, value_kind, command_named}
+use Rattle.planner_top.specs.declared.stop.FileWord.{FileWord}
+use Rattle.planner_top.specs.Commands.{required_keys, further_keys, key_text, value_kind, file_key, written_file, command_named}
 
 -- the bytes of words
 abbrev pub texts : {Z : Type 0} → List (String Z) → List (List ℕ)
@@ -59,6 +61,10 @@ is_keyed text word = bytes_eq (key_in word) text
 unfoldable pub has_key : List (List ℕ) → List ℕ → Bool
 has_key words text = list_any (is_keyed text) words
 
+-- the value of the first word that has the key
+unfoldable pub value_at : Key → List (List ℕ) → List ℕ
+value_at key later = value_in (unwrap_or (find (is_keyed (key_text key)) later) [])
+
 -- the value of a word is not one that its key may have
 unfoldable pub is_bad_value : Command → List ℕ → Bool
 is_bad_value command word = refuses (key_named command (key_in word)) (value_in word)
@@ -96,10 +102,27 @@ later_fault_at command later k = option_map (fault_at (k + 2)) (first_of (later_
 abbrev pub missing_fault : Command → List (List ℕ) → Option WordFault
 missing_fault command later = option_map (λ k. fault_at (k + 1) MISSING_KEY) (position (is_missing later) (required_keys command))
 
+-- the value at a key is that name
+unfoldable pub is_named_at : Key → List (List ℕ) → List ℕ → Bool
+is_named_at key later name = bytes_eq (value_at key later) name
+
+-- one of the three files of a network has that name
+unfoldable pub is_read : List (List ℕ) → List ℕ → Bool
+is_read later name = is_named_at Stages later name || is_named_at Tables later name || is_named_at Arcs later name
+
+-- a file that is written, where its key is given, has the name of one that is read
+unfoldable pub is_reused : Option FileWord → List (List ℕ) → Bool
+is_reused None later = false
+is_reused (Some word) later = has_key later (key_text (file_key word)) && is_read later (value_at (file_key word) later)
+
+-- the file that a command writes has the name of one that it reads
+abbrev pub reuse_fault : Command → List (List ℕ) → Option WordFault
+reuse_fault command later = if is_reused (written_file command) later then Some (fault_at 0 NAME_REUSED) else None
+
 -- the first rule that fails behind a command: on each word in turn, and then on the words together
 abbrev pub command_fault : List (List ℕ) → Option Command → Option WordFault
 command_fault later None = Some (fault_at 1 NO_COMMAND)
-command_fault later (Some command) = first_of (first_below (later_fault_at command later) (length later) ∷ missing_fault command later ∷ [])
+command_fault later (Some command) = first_of (first_below (later_fault_at command later) (length later) ∷ missing_fault command later ∷ reuse_fault command later ∷ [])
 
 -- the first rule that fails on words
 unfoldable pub word_fault : List (List ℕ) → Option WordFault

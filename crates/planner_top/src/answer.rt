@@ -3,7 +3,7 @@ ghost use Rattle.std.specs.Prelude.{◌≡◌};
 ghost use Rattle.planner_top.specs.declared.answer.Unanswered.TheVariants as unanswered;
 
 use crate::stop::FileWord;
-use service_model::NoMemory;
+use service_model::{Cert, NoMemory};
 use stage_file::Rows;
 
 /// How a run ends where memory sufficed and no call on the outside failed.
@@ -14,15 +14,18 @@ pub enum Ending {
     Words,
     Refused,
     TooLong,
+    /// A rule fails on the certificate that was checked.
+    NotAccepted,
     /// The plan that was audited breaks a rule.
     NotFeasible,
 }
 
-/// An ending, with the rows that are printed.
+/// An ending, with the rows that are printed, and the certificate that shows the answer where a network was solved.
 #[derive(Drop)]
 pub struct Answer {
     pub ending: Ending,
     pub rows: Rows,
+    pub cert: Option<Cert>,
 }
 
 /// Why there is no answer.

@@ -3,12 +3,14 @@ ghost use Rattle.std.specs.Prelude.{◌≡◌, ◌≤◌, ◌+◌, ◌-◌, ◌^
 ghost use Rattle.service_model.specs.declared.limits.TheConstants.{MAX_HORIZON};
 ghost use Rattle.planner_top.specs.Requests.{request_as};
 ghost use Rattle.planner_top.specs.Tasks.{IsReady};
+ghost use Rattle.planner_top.specs.Certificates.{bytes_in};
 ghost use Rattle.planner_top.specs.Answers.{IsDone};
 ghost use Rattle.planner_top.specs.Problems.{ProblemCase, AskedCase, AnswerCase};
 
 use crate::answer::{Answer, Unanswered};
 use crate::asked::Request;
 use crate::audit::audit_of;
+use crate::check::check_of;
 use crate::files::read_files;
 use crate::filled::MOST_FILLED;
 use crate::refusal::refusal_of;
@@ -66,7 +68,7 @@ fn asked_problem<S: Shelf>(
     ensures writes { S.write_faults shelf.new ≡ S.write_faults shelf.old }
 {
     match read_files(alloc, shelf, request) {
-        Ok(contents) => task_of(alloc, request.command, request.horizon, &contents),
+        Ok(contents) => task_of(alloc, request.command, request.horizon, contents),
         Err(unsolved) => Err(unsolved),
     }
 }
@@ -75,12 +77,13 @@ fn asked_problem<S: Shelf>(
 fn done_of<L>(alloc: Global, task: &Task, steps: &mut Steps<L>) -> Result<Answer, NoMemory>
     requires ready { IsReady task.now }
     requires room { steps.old ≤ 2 ^ 62 }
-    ensures done { IfOk result (λ a. IsDone a.ending a.rows (steps.new - steps.old) task.now) }
+    ensures done { IfOk result (λ a. IsDone a.ending a.rows (steps.new - steps.old) (bytes_in a.cert) task.now) }
     ensures later { steps.old ≤ steps.new }
     ensures few { steps.new ≤ steps.old + MOST_FILLED }
 {
     match task {
         Task::Solve(checked, forest) => solution_of(alloc, checked, forest, steps),
         Task::Audit(checked, plan) => audit_of(alloc, checked, plan),
+        Task::Check(checked, bytes) => check_of(alloc, checked, bytes.as_slice()),
     }
 }

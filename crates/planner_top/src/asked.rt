@@ -10,5 +10,7 @@ pub struct Request<'a> {
     pub arcs: &'a str,
     /// The file that the command reads behind these three; empty where it reads none.
     pub further: &'a str,
+    /// The name of the certificate that is to be written, if one is asked for.
+    pub cert: Option<&'a str>,
     pub horizon: u16,
 }

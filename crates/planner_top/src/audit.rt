@@ -1,5 +1,5 @@
 // The answer of `audit`.
-ghost use Rattle.std.specs.Prelude.{◌≡◌, ◌<◌, ◌++◌, ◌∷◌, [], length, IfOk, OnOk, Some};
+ghost use Rattle.std.specs.Prelude.{◌≡◌, ◌<◌, ◌++◌, ◌∷◌, [], length, IfOk, OnOk, Some, None};
 ghost use Rattle.service_model.specs.Plans.{HasTimes, Feasible};
 ghost use Rattle.service_model.specs.Breaks.{first_break_of};
 ghost use Rattle.network_check.specs.Checked.{IsChecked, name_at};
@@ -18,16 +18,19 @@ use std::alloc::Global;
 pub fn audit_of(alloc: Global, checked: &Checked, plan: &Plan) -> Result<Answer, NoMemory>
     requires checked { IsChecked checked.now }
     requires times { HasTimes checked.now.network plan.now }
-    ensures { IfOk result (λ a. IsAudit a.ending a.rows checked.now plan.now) }
+    ensures audit { IfOk result (λ a. IsAudit a.ending a.rows checked.now plan.now) }
+    ensures none { IfOk result (λ a. a.cert ≡ None) }
 {
     match checked.network.first_break(plan) {
         None => Ok(Answer {
             ending: Ending::Done,
             rows: audit_rows(alloc, checked, plan)?,
+            cert: None,
         }),
         Some(broken) => Ok(Answer {
             ending: Ending::NotFeasible,
             rows: broken_rows(alloc, checked, plan, broken)?,
+            cert: None,
         }),
     }
 }

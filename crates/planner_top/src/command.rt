@@ -1,6 +1,6 @@
 // The commands with their keys: what may stand on a command line.
 ghost use Rattle.std.specs.Prelude.{◌≡◌};
-ghost use Rattle.planner_top.specs.Commands.{command_named, required_keys, further_keys, key_text, value_kind, file_key, further_file, IsReadable};
+ghost use Rattle.planner_top.specs.Commands.{command_named, required_keys, further_keys, key_text, value_kind, file_key, further_file, written_file, IsReadable};
 
 use crate::stop::FileWord;
 use service_model::MAX_HORIZON;
@@ -12,6 +12,8 @@ pub enum Command {
     Solve,
     /// What a plan costs, or which rule it breaks.
     Audit,
+    /// Whether a certificate is accepted, or which rule fails on it.
+    Check,
 }
 
 /// A key of a command. Two keys of different commands may have one text.
@@ -22,6 +24,7 @@ pub enum Key {
     Arcs,
     Horizon,
     Plan,
+    Cert,
 }
 
 /// What the value behind a key may be.
@@ -41,6 +44,8 @@ pub fn command_named(word: &str) -> Option<Command>
         Some(Command::Solve)
     } else if word.as_bytes() == b"audit".as_slice() {
         Some(Command::Audit)
+    } else if word.as_bytes() == b"check".as_slice() {
+        Some(Command::Check)
     } else {
         None
     }
@@ -53,6 +58,7 @@ pub fn required_keys(command: Command) -> &'static [Key]
     match command {
         Command::Solve => &[Key::Stages, Key::Tables, Key::Arcs, Key::Horizon],
         Command::Audit => &[Key::Stages, Key::Tables, Key::Arcs, Key::Horizon, Key::Plan],
+        Command::Check => &[Key::Stages, Key::Tables, Key::Arcs, Key::Horizon, Key::Cert],
     }
 }
 
@@ -61,7 +67,8 @@ pub fn further_keys(command: Command) -> &'static [Key]
     ensures { result.now ≡ further_keys command }
 {
     match command {
-        Command::Solve | Command::Audit => &[],
+        Command::Solve => &[Key::Cert],
+        Command::Audit | Command::Check => &[],
     }
 }
 
@@ -75,6 +82,7 @@ pub fn key_text(key: Key) -> &'static str
         Key::Arcs => "arcs",
         Key::Horizon => "horizon",
         Key::Plan => "plan",
+        Key::Cert => "cert",
     }
 }
 
@@ -84,7 +92,7 @@ pub fn value_kind(key: Key) -> ValueKind
     ensures within { IsReadable result }
 {
     match key {
-        Key::Stages | Key::Tables | Key::Arcs | Key::Plan => ValueKind::FileName,
+        Key::Stages | Key::Tables | Key::Arcs | Key::Plan | Key::Cert => ValueKind::FileName,
         Key::Horizon => ValueKind::WholeNumber(0, MAX_HORIZON as u64),
     }
 }
@@ -98,6 +106,7 @@ pub fn file_key(file: FileWord) -> Key
         FileWord::Tables => Key::Tables,
         FileWord::Arcs => Key::Arcs,
         FileWord::Plan => Key::Plan,
+        FileWord::Cert => Key::Cert,
     }
 }
 
@@ -108,5 +117,16 @@ pub fn further_file(command: Command) -> Option<FileWord>
     match command {
         Command::Solve => None,
         Command::Audit => Some(FileWord::Plan),
+        Command::Check => Some(FileWord::Cert),
+    }
+}
+
+/// The file that a command writes where its key is given.
+pub fn written_file(command: Command) -> Option<FileWord>
+    ensures { result ≡ written_file command }
+{
+    match command {
+        Command::Solve => Some(FileWord::Cert),
+        Command::Audit | Command::Check => None,
     }
 }

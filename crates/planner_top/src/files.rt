@@ -1,8 +1,8 @@
 // Reading the files of a request.
-ghost use Rattle.std.specs.Prelude.{◌≡◌};
+ghost use Rattle.std.specs.Prelude.{◌≡◌, ◌≤◌};
 ghost use Rattle.planner_top.specs.Commands.{further_file};
 ghost use Rattle.planner_top.specs.Requests.{request_as};
-ghost use Rattle.planner_top.specs.Contents.{FilesCase, FurtherCase, unread_of};
+ghost use Rattle.planner_top.specs.Contents.{FilesCase, FurtherCase, limit_of, unread_of};
 
 use crate::asked::Request;
 use crate::command::further_file;
@@ -16,6 +16,9 @@ use std::alloc::Global;
 
 /// The most bytes of a stage, table, arc or plan file.
 pub const FILE_LIMIT: u64 = 16_777_216;
+
+/// The most bytes of a certificate.
+pub const CERT_LIMIT: u64 = 2_147_483_648;
 
 /// Reads the files in turn.
 pub fn read_files<S: Shelf>(
@@ -64,9 +67,20 @@ fn read_further<S: Shelf>(
     let Some(file) = file else {
         return Ok(List::new(alloc));
     };
-    match read_file(alloc, shelf, name, FILE_LIMIT) {
+    match read_file(alloc, shelf, name, limit_of(file)) {
         Ok(bytes) => Ok(bytes),
         Err(stop) => Err(unread(file, stop)),
+    }
+}
+
+// The most bytes of a file.
+fn limit_of(file: FileWord) -> u64
+    ensures value { result ≡ limit_of file }
+    ensures within { result ≤ CERT_LIMIT }
+{
+    match file {
+        FileWord::Stages | FileWord::Tables | FileWord::Arcs | FileWord::Plan => FILE_LIMIT,
+        FileWord::Cert => CERT_LIMIT,
     }
 }
 

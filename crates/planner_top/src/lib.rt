@@ -5,16 +5,17 @@ mod answer;
 mod answering;
 mod asked;
 mod audit;
+mod check;
 mod command;
 mod contents;
 mod fetch;
 mod files;
 mod filled;
-mod least;
 mod not_yet;
 mod refusal;
 mod report;
 mod request;
+mod search;
 mod solve;
 mod status;
 mod stop;
@@ -23,6 +24,8 @@ mod task;
 mod tests;
 #[cfg(test)]
 mod tests_audit;
+#[cfg(test)]
+mod tests_check;
 #[cfg(test)]
 mod tests_failed;
 #[cfg(test)]
@@ -33,6 +36,7 @@ mod word_fault;
 mod word_rules;
 mod word_tests;
 mod words;
+mod write;
 
 pub use status::Status;
 pub use top::run;

@@ -2,6 +2,7 @@
 ghost use Rattle.std.specs.Prelude.{◌≡◌, ◌∷◌, [], ◌++◌, IfOk, map};
 ghost use Rattle.std.specs.Fmt.{decimal};
 ghost use Rattle.planner_top.specs.Texts.{stop_row, word_row, refused_row, rule_text, kind_text, file_text};
+ghost use Rattle.planner_top.specs.Certificates.{bytes_in};
 ghost use Rattle.planner_top.specs.Answers.{IsRefusal, ending_of};
 
 use crate::answer::{Answer, Ending};
@@ -15,13 +16,14 @@ use std::alloc::Global;
 
 /// The line of a refusal, with how the run ends.
 pub fn refusal_of(alloc: Global, stop: Stop) -> Result<Answer, NoMemory>
-    ensures { IfOk result (λ a. IsRefusal a.ending a.rows 0 stop) }
+    ensures { IfOk result (λ a. IsRefusal a.ending a.rows 0 (bytes_in a.cert) stop) }
 {
     let mut rows = List::new(alloc);
     rows.push(stop_row(alloc, stop)?)?;
     Ok(Answer {
         ending: ending_of(stop),
         rows,
+        cert: None,
     })
 }
 
@@ -98,5 +100,6 @@ pub fn file_text(file: FileWord) -> &'static str
         FileWord::Tables => "tables",
         FileWord::Arcs => "arcs",
         FileWord::Plan => "plan",
+        FileWord::Cert => "cert",
     }
 }

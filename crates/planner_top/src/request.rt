@@ -1,16 +1,16 @@
 // What the words ask for.
-ghost use Rattle.std.specs.Prelude.{◌≡◌, ◌≤◌, drop, find, option_map, unwrap_or, string_bytes};
+ghost use Rattle.std.specs.Prelude.{◌≡◌, ◌≤◌, drop, option_map, unwrap_or};
 ghost use Rattle.service_model.specs.declared.limits.TheConstants.{MAX_HORIZON};
-ghost use Rattle.planner_top.specs.Words.{texts, is_keyed};
-ghost use Rattle.planner_top.specs.Asked.{value_at, number_to, further_name, asked_by, command_of, asked_of};
+ghost use Rattle.planner_top.specs.Words.{texts};
+ghost use Rattle.planner_top.specs.Asked.{number_to, further_name, written_name, asked_by, command_of, asked_of, cert_name};
 ghost use Rattle.planner_top.specs.Commands.{command_named};
 ghost use Rattle.planner_top.specs.Requests.{request_as, RequestCase};
 
 use crate::asked::Request;
-use crate::command::{Command, Key, command_named, file_key, further_file, key_text};
+use crate::command::{Command, Key, command_named, file_key, further_file, key_text, written_file};
 use crate::stop::FileWord;
 use crate::word_fault::{WordFault, word_fault};
-use crate::word_tests::{is_keyed, value_in};
+use crate::word_tests::{has_key, value_at};
 use crate::words::Words;
 use gsm_nums::read_whole;
 use service_model::MAX_HORIZON;
@@ -24,6 +24,16 @@ pub fn request_of(words: &Words) -> Result<Request<'_>, WordFault>
     match word_fault(words) {
         Some(fault) => Err(fault),
         None => Ok(request_in(words)),
+    }
+}
+
+/// The name of the certificate that the words ask for; none where a rule on them fails.
+pub fn cert_name(words: &Words) -> Option<&str>
+    ensures { option_map (λ name. name.now) result ≡ cert_name words.now }
+{
+    match request_of(words) {
+        Ok(request) => request.cert,
+        Err(_) => None,
     }
 }
 
@@ -54,6 +64,7 @@ fn request_by(command: Command, later: &[String]) -> Request<'_>
         tables: value_at(Key::Tables, later),
         arcs: value_at(Key::Arcs, later),
         further: further_name(further_file(command), later),
+        cert: written_name(written_file(command), later),
         horizon: number_to(MAX_HORIZON, value_at(Key::Horizon, later)),
     }
 }
@@ -68,20 +79,16 @@ fn further_name(file: Option<FileWord>, later: &[String]) -> &str
     }
 }
 
-// The value of the first word that has the key.
-fn value_at(key: Key, later: &[String]) -> &str
-    ensures { result.now ≡ value_at key (texts later.now) }
+// The name of the file that a command writes, where its key is given.
+fn written_name(file: Option<FileWord>, later: &[String]) -> Option<&str>
+    ensures { option_map (λ name. name.now) result ≡ written_name file (texts later.now) }
 {
-    match first_keyed(later, key_text(key)) {
-        Some(word) => value_in(word.as_str()),
-        None => "",
+    let key = file_key(file?);
+    if has_key(later, key_text(key)) {
+        Some(value_at(key, later))
+    } else {
+        None
     }
-}
-
-fn first_keyed<'a>(words: &'a [String], text: &str) -> Option<&'a String>
-    ensures { option_map (λ s. s.now) result ≡ find (λ s. is_keyed text.now (string_bytes s)) words.now }
-{
-    words.iter().find(|word| is_keyed(text, word.as_str()))
 }
 
 // The number that a value shows; 0 where it shows none up to the greatest, which no rule on words lets through.

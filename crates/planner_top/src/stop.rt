@@ -14,6 +14,8 @@ pub enum FileWord {
     Tables,
     Arcs,
     Plan,
+    /// A certificate.
+    Cert,
 }
 
 /// Why one file was not read.

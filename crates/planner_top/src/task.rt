@@ -8,7 +8,8 @@ ghost use Rattle.stage_file.specs.Arcs.{names_of};
 ghost use Rattle.stage_file.specs.PlanRecords.{plan_file_fault, plan_of};
 ghost use Rattle.stage_file.specs.Faults.{Reads};
 ghost use Rattle.network_check.specs.Checked.{IsNetworkOf, IsChecked};
-ghost use Rattle.planner_top.specs.Contents.{AreShort};
+ghost use Rattle.planner_top.specs.Commands.{further_file};
+ghost use Rattle.planner_top.specs.Contents.{AreShort, IsWithin};
 ghost use Rattle.planner_top.specs.Tasks.{files_in, loop_fault, TaskCase, TogetherCase, LastCase};
 
 use crate::command::Command;
@@ -19,7 +20,7 @@ use crate::stop::{Stop, Unsolved, unsolved_by};
 use network_check::{Checked, check_records};
 use service_model::{NoMemory, Plan};
 use stage_file::{
-    FileFault, FileKind, Files, RawNet, ReadFault, Rows, raw_net, read_plan, rows_of,
+    FileFault, FileKind, Files, RawNet, ReadFault, Rows, Text, raw_net, read_plan, rows_of,
 };
 use std::alloc::Global;
 use tree_order::{Forest, forest_of};
@@ -31,6 +32,8 @@ pub enum Task {
     Solve(Checked, Forest),
     /// The plan is to be tested against the rules.
     Audit(Checked, Plan),
+    /// The bytes of a certificate are to be tested against the rules.
+    Check(Checked, Text),
 }
 
 /// What the command does with the network of files under a horizon, or the first rule on files that fails.
@@ -38,22 +41,24 @@ pub fn task_of(
     alloc: Global,
     command: Command,
     horizon: u16,
-    contents: &Contents,
+    contents: Contents,
 ) -> Result<Task, Unsolved>
     requires horizon { horizon ≤ MAX_HORIZON }
-    requires short { AreShort contents.now }
-    ensures { TaskCase command horizon contents.now result }
+    requires short { AreShort command contents }
+    ensures { TaskCase command horizon contents result }
 {
-    let files = files_of(alloc, contents)?;
+    let files = files_of(alloc, &contents)?;
     match raw_net(alloc, &files, horizon) {
-        Ok(raw) => task_in(alloc, command, &raw, contents.further.as_slice()),
+        Ok(raw) => task_in(alloc, command, &raw, contents.further),
         Err(fault) => Err(unsolved_by(fault)),
     }
 }
 
 // The rows of the three files of a network.
 fn files_of(alloc: Global, contents: &Contents) -> Result<Files, NoMemory>
-    requires { AreShort contents.now }
+    requires stages { length contents.now.stages ≤ FILE_LIMIT }
+    requires tables { length contents.now.tables ≤ FILE_LIMIT }
+    requires arcs { length contents.now.arcs ≤ FILE_LIMIT }
     ensures value { IfOk result (λ files. files ≡ files_in contents.now) }
     ensures countable { IfOk result AreFiles }
 {
@@ -75,11 +80,11 @@ fn rows_in(alloc: Global, bytes: &[u8]) -> Result<Rows, NoMemory>
 }
 
 // What the command does with the network of records, or the first rule on them together or behind that fails.
-fn task_in(alloc: Global, command: Command, raw: &RawNet, further: &[u8]) -> Result<Task, Unsolved>
+fn task_in(alloc: Global, command: Command, raw: &RawNet, further: Text) -> Result<Task, Unsolved>
     requires horizon { raw.now.horizon ≤ MAX_HORIZON }
     requires read { IsRawNet raw.now }
-    requires short { length further.now ≤ FILE_LIMIT }
-    ensures { TogetherCase command raw.now further.now result }
+    requires short { IsWithin (further_file command) further }
+    ensures { TogetherCase command raw.now further result }
 {
     match check_records(alloc, raw) {
         Ok(checked) => last_of(alloc, command, raw, checked, further),
@@ -93,20 +98,21 @@ fn last_of(
     command: Command,
     raw: &RawNet,
     checked: Checked,
-    further: &[u8],
+    further: Text,
 ) -> Result<Task, Unsolved>
     requires read { IsRawNet raw.now }
     requires made { IsNetworkOf raw.now checked }
     requires checked { IsChecked checked }
-    requires short { length further.now ≤ FILE_LIMIT }
-    ensures { LastCase command raw.now further.now result }
+    requires short { IsWithin (further_file command) further }
+    ensures { LastCase command raw.now further result }
 {
     match command {
         Command::Solve => solve_task(alloc, raw, checked),
-        Command::Audit => match plan_in(alloc, raw, further) {
+        Command::Audit => match plan_in(alloc, raw, further.as_slice()) {
             Ok(plan) => Ok(Task::Audit(checked, plan)),
             Err(fault) => Err(unsolved_by(fault)),
         },
+        Command::Check => Ok(Task::Check(checked, further)),
     }
 }
 

@@ -227,14 +227,25 @@ fn each_rule_on_files_is_printed_with_its_place(rt: HostRuntime) -> Result<(), F
 #[test]
 fn each_rule_on_words_is_printed_with_its_place(rt: HostRuntime) -> Result<(), Fail> {
     let alloc = rt.alloc();
-    let cases: [(&[&str], &str); 14] = [
+    let cases: [(&[&str], &str); 16] = [
         (&[], "words,W1,0\n"),
         (&["--help"], "words,W2,1\n"),
         (&["solve", "stages=s"], "words,W6,2\n"),
         (&["solve", "horizon=5", "arcs=a"], "words,W6,1\n"),
         (&["solve", "stages=s", "stages=t"], "words,W5,3\n"),
         (&["solve", "stages"], "words,W3,2\n"),
-        (&["solve", "stages=s", "cert=c"], "words,W4,3\n"),
+        (&["solve", "stages=s", "script=c"], "words,W4,3\n"),
+        (
+            &[
+                "solve",
+                "cert=t",
+                "stages=s",
+                "tables=t",
+                "arcs=a",
+                "horizon=2",
+            ],
+            "words,W8,0\n",
+        ),
         (&["solve", "=s"], "words,W4,2\n"),
         (&["solve", "stages="], "words,W7,2\n"),
         (
@@ -244,6 +255,10 @@ fn each_rule_on_words_is_printed_with_its_place(rt: HostRuntime) -> Result<(), F
         (&["solve", "plan=p"], "words,W4,2\n"),
         (
             &["audit", "stages=s", "tables=t", "arcs=a", "horizon=2"],
+            "words,W6,5\n",
+        ),
+        (
+            &["check", "stages=s", "tables=t", "arcs=a", "horizon=2"],
             "words,W6,5\n",
         ),
         (&["solve", "horizon=401"], "words,W7,2\n"),

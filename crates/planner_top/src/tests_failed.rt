@@ -123,3 +123,41 @@ fn a_put_that_fails_is_a_write_fault(rt: HostRuntime) -> Result<(), Fail> {
     }
     Ok(())
 }
+
+// The lines of the plain case's certificate.
+const CERT_LINES: [&str; 4] = [
+    "[\"gsm-cert\",1,10,1,1000]\n",
+    "[\"t\",0,2,0,2,0,[],[17]]\n",
+    "[\"n\",[0],[[0],[2]]]\n",
+    "[\"e\",0,17,[[0],[2]]]\n",
+];
+
+#[test]
+fn a_certificate_that_cannot_be_written_is_a_write_fault(rt: HostRuntime) -> Result<(), Fail> {
+    let alloc = rt.alloc();
+    let words = words_of(
+        alloc,
+        &[
+            "solve",
+            "stages=s",
+            "tables=t",
+            "arcs=a",
+            "horizon=10",
+            "cert=c",
+        ],
+    )?;
+    for lines in 0..5 {
+        let mut shelf = plain_shelf(alloc, vec![in alloc; 7 + lines]?)?;
+        let mut out = MemSink::new(alloc, Vec::new(alloc));
+        let status = run_once(alloc, &words, &mut shelf, &mut out);
+        let got = (status, out.written());
+        assert_eq!(rt; got, (Status::WriteFault, b"write fault,cert\n".as_slice()));
+        let mut front = Vec::new(alloc);
+        for line in CERT_LINES.iter().take((lines as usize).saturating_sub(1)) {
+            front.extend_from_slice(line.as_bytes())?;
+        }
+        let bytes = shelf.bytes_of("c").unwrap_or(b"");
+        assert_eq!(rt; bytes, front.as_slice(), "line {lines}");
+    }
+    Ok(())
+}

@@ -1,25 +1,29 @@
 // The top call.
-ghost use Rattle.std.specs.Prelude.{◌≡◌, ◌≤◌, ◌^◌, [], ◌∷◌, IfOk, OnOk, OnErr};
+ghost use Rattle.std.specs.Prelude.{◌≡◌, ◌≤◌, ◌^◌, [], ◌∷◌, None, IfOk, OnOk, OnErr, option_map};
 ghost use Rattle.gsm_outside.specs.Causes.{HasCause};
-ghost use Rattle.planner_top.specs.Texts.{lines_of, fault_row};
-ghost use Rattle.planner_top.specs.Runs.{run_of, Follows, PartFollows, StatusCase, status_of, FaultCase};
+ghost use Rattle.planner_top.specs.Asked.{cert_name};
+ghost use Rattle.planner_top.specs.Texts.{lines_of, fault_row, write_fault_row};
+ghost use Rattle.planner_top.specs.Certificates.{bytes_in, KeepsOthers};
+ghost use Rattle.planner_top.specs.Runs.{run_of, Follows, PartFollows, StatusCase, status_of, FaultCase, GivenCase, given_of, ToldCase};
 ghost use Rattle.planner_top.specs.Headline.{Headline};
 
-use crate::answer::{Ending, Unanswered};
+use crate::answer::{Answer, Ending, Unanswered};
 use crate::answering::answer_of;
 use crate::refusal::file_text;
+use crate::request::cert_name;
 use crate::status::Status;
 use crate::stop::FileWord;
 use crate::text::{row_of, text_of};
 use crate::words::Words;
+use crate::write::write_cert;
 use gsm_outside::{OutFault, Shelf, Sink};
 use service_model::{List, NoMemory};
 use stage_file::{Row, Rows};
 use std::alloc::Global;
 use step_ledger::Steps;
 
-/// Does all that the program does: reads the files that the words name, does what they ask, and prints the answer. The
-/// steps count the tables that are filled.
+/// Does all that the program does: reads the files that the words name, does what they ask, writes the certificate if they
+/// ask for one, and prints the answer. The steps count the tables that are filled.
 pub fn run<S: Shelf, K: Sink, L>(
     alloc: Global,
     words: &Words,
@@ -43,17 +47,37 @@ fn run_cases<S: Shelf, K: Sink, L>(
 ) -> Status
     requires { steps.old ≤ 2 ^ 62 }
     ensures case { StatusCase (run_of words.now (S.held shelf.old) (S.held shelf.new) (S.read_faults shelf.old) (S.read_faults shelf.new) (S.write_faults shelf.old) (S.write_faults shelf.new) (K.written out.old) (K.written out.new) (K.faults out.old) (K.faults out.new) steps.old steps.new result) result }
-    ensures held { S.held shelf.new ≡ S.held shelf.old }
-    ensures writes { S.write_faults shelf.new ≡ S.write_faults shelf.old }
+    ensures held { KeepsOthers (cert_name words.now) (S.held shelf.old) (S.held shelf.new) }
+    ensures writes { cert_name words.now ≡ None → S.write_faults shelf.new ≡ S.write_faults shelf.old }
 {
     match answer_of(alloc, words, shelf, steps) {
-        Ok(answer) => match print(alloc, out, answer.rows.as_slice()) {
-            Ok(()) => status_of(answer.ending),
+        Ok(answer) => give(alloc, shelf, out, cert_name(words), answer),
+        Err(Unanswered::Fault(file)) => print_fault(alloc, out, file),
+        Err(Unanswered::NoMemory) => Status::NoMemory,
+    }
+}
+
+// Writes the certificate of an answer, where a name is asked for, and prints the answer.
+fn give<S: Shelf, K: Sink>(
+    alloc: Global,
+    shelf: &mut S,
+    out: &mut K,
+    name: Option<&str>,
+    answer: Answer,
+) -> Status
+    ensures case { GivenCase (given_of answer.ending answer.rows (option_map (λ s. s.now) name.entry) (bytes_in answer.cert) (S.held shelf.old) (S.held shelf.new) (S.write_faults shelf.old) (S.write_faults shelf.new) (K.written out.old) (K.written out.new) (K.faults out.old) (K.faults out.new)) result }
+    ensures writes { option_map (λ s. s.now) name.entry ≡ None → S.write_faults shelf.new ≡ S.write_faults shelf.old }
+    ensures reads { S.read_faults shelf.new ≡ S.read_faults shelf.old }
+{
+    let Answer { ending, rows, cert } = answer;
+    match write_cert(alloc, shelf, name, cert) {
+        Ok(()) => match print(alloc, out, rows.as_slice()) {
+            Ok(()) => status_of(ending),
             Err(OutFault::Failed) => Status::WriteFault,
             Err(OutFault::NoMemory) => Status::NoMemory,
         },
-        Err(Unanswered::Fault(file)) => print_fault(alloc, out, file),
-        Err(Unanswered::NoMemory) => Status::NoMemory,
+        Err(OutFault::Failed) => print_unwritten(alloc, out),
+        Err(OutFault::NoMemory) => Status::NoMemory,
     }
 }
 
@@ -66,6 +90,7 @@ fn status_of(ending: Ending) -> Status
         Ending::Words => Status::Words,
         Ending::Refused => Status::Refused,
         Ending::TooLong => Status::TooLong,
+        Ending::NotAccepted => Status::NotAccepted,
         Ending::NotFeasible => Status::NotFeasible,
     }
 }
@@ -94,6 +119,28 @@ fn print_fault<K: Sink>(alloc: Global, out: &mut K, file: FileWord) -> Status
         Err(OutFault::Failed) => Status::WriteFault,
         Err(OutFault::NoMemory) => Status::NoMemory,
     }
+}
+
+// Prints that the certificate could not be written.
+fn print_unwritten<K: Sink>(alloc: Global, out: &mut K) -> Status
+    ensures { ToldCase (K.written out.old) (K.written out.new) (K.faults out.old) (K.faults out.new) result }
+{
+    let Ok(rows) = unwritten_rows(alloc) else {
+        return Status::NoMemory;
+    };
+    match print(alloc, out, rows.as_slice()) {
+        Ok(()) => Status::WriteFault,
+        Err(OutFault::Failed) => Status::WriteFault,
+        Err(OutFault::NoMemory) => Status::NoMemory,
+    }
+}
+
+fn unwritten_rows(alloc: Global) -> Result<Rows, NoMemory>
+    ensures { IfOk result (λ rows. rows ≡ write_fault_row ∷ []) }
+{
+    let mut rows = List::new(alloc);
+    rows.push(row_of(alloc, &["write fault", file_text(FileWord::Cert)])?)?;
+    Ok(rows)
 }
 
 fn fault_rows(alloc: Global, file: FileWord) -> Result<Rows, NoMemory>

@@ -2,15 +2,15 @@
 ghost use Rattle.std.specs.Prelude.{◌≡◌, ◌+◌, ◌<◌, length, option_map, position, IfSome};
 ghost use Rattle.service_model.specs.Search.{first_of, first_below};
 ghost use Rattle.planner_top.specs.Commands.{required_keys};
-ghost use Rattle.planner_top.specs.Words.{texts, fails_if, later_rules, later_fault_at, missing_fault, is_missing, word_fault};
+ghost use Rattle.planner_top.specs.Words.{texts, fails_if, later_rules, later_fault_at, missing_fault, is_missing, reuse_fault, word_fault};
 
-use crate::command::{Command, Key, command_named, key_text, required_keys};
+use crate::command::{Command, Key, command_named, key_text, required_keys, written_file};
 use crate::word_rules::{
-    BAD_VALUE, KEY_TWICE, MISSING_KEY, NO_COMMAND, NO_EQUALS, NO_WORD, UNKNOWN_KEY,
+    BAD_VALUE, KEY_TWICE, MISSING_KEY, NAME_REUSED, NO_COMMAND, NO_EQUALS, NO_WORD, UNKNOWN_KEY,
 };
-use crate::word_tests::{has_equals, has_key, is_bad_value, is_unknown, key_in};
+use crate::word_tests::{has_equals, has_key, is_bad_value, is_reused, is_unknown, key_in};
 
-/// A rule that fails, by its number in `word_rules`, with the word's number from 1 on; 0 where there is no word.
+/// A rule that fails, by its number in `word_rules`, with the word's number from 1 on; 0 where no word is at fault.
 /// A missing key has its place in the command's list instead.
 #[derive(Clone, Copy, Debug, PartialEq, Eq)]
 pub struct WordFault {
@@ -29,7 +29,9 @@ pub fn word_fault(words: &[String]) -> Option<WordFault>
     let Some(command) = command_named(first.as_str()) else {
         return fault_at(1, NO_COMMAND);
     };
-    later_fault(command, later).or_else(|| missing_fault(command, later))
+    later_fault(command, later)
+        .or_else(|| missing_fault(command, later))
+        .or_else(|| reuse_fault(command, later))
 }
 
 fn fault_at(place: u64, rule: u8) -> Option<WordFault>
@@ -89,4 +91,15 @@ fn is_missing(later: &[String], key: Key) -> bool
     ensures { result ≡ is_missing (texts later.now) key }
 {
     !has_key(later, key_text(key))
+}
+
+// The file that the command writes has the name of one that it reads.
+fn reuse_fault(command: Command, later: &[String]) -> Option<WordFault>
+    ensures { result ≡ reuse_fault command (texts later.now) }
+{
+    if is_reused(written_file(command), later) {
+        fault_at(0, NAME_REUSED)
+    } else {
+        None
+    }
 }

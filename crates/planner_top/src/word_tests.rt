@@ -1,10 +1,13 @@
 // What the rules on words test: a word's key and its value.
-ghost use Rattle.std.specs.Prelude.{◌≡◌, option_map, string_bytes};
+ghost use Rattle.std.specs.Prelude.{◌≡◌, find, option_map, string_bytes};
 ghost use Rattle.std.specs.List.{list_any};
 ghost use Rattle.planner_top.specs.Commands.{IsReadable};
-ghost use Rattle.planner_top.specs.Words.{texts, has_equals, key_in, value_in, is_named, key_among, key_named, is_allowed, is_unknown, is_keyed, has_key, is_bad_value};
+ghost use Rattle.planner_top.specs.Words.{texts, has_equals, key_in, value_in, is_named, key_among, key_named, is_allowed, is_unknown, is_keyed, has_key, value_at, is_bad_value, is_named_at, is_read, is_reused};
 
-use crate::command::{Command, Key, ValueKind, further_keys, key_text, required_keys, value_kind};
+use crate::command::{
+    Command, Key, ValueKind, file_key, further_keys, key_text, required_keys, value_kind,
+};
+use crate::stop::FileWord;
 use gsm_nums::read_whole;
 
 /// Whether a word has a `=`.
@@ -113,5 +116,53 @@ fn is_allowed(kind: ValueKind, value: &str) -> bool
     match kind {
         ValueKind::FileName => !value.is_empty(),
         ValueKind::WholeNumber(least, most) => { read_whole(value.as_bytes(), least, most).is_ok() }
+    }
+}
+
+/// The value of the first word that has the key; nothing where none has.
+pub fn value_at(key: Key, later: &[String]) -> &str
+    ensures { result.now ≡ value_at key (texts later.now) }
+{
+    match first_keyed(later, key_text(key)) {
+        Some(word) => value_in(word.as_str()),
+        None => "",
+    }
+}
+
+fn first_keyed<'a>(words: &'a [String], text: &str) -> Option<&'a String>
+    ensures { option_map (λ s. s.now) result ≡ find (λ s. is_keyed text.now (string_bytes s)) words.now }
+{
+    words.iter().find(|word| is_keyed(text, word.as_str()))
+}
+
+// Whether the value at a key is that name.
+#[tactic(auto, unfolding(crate::specs::Words::is_named_at))]
+fn is_named_at(key: Key, later: &[String], name: &str) -> bool
+    ensures { result ≡ is_named_at key (texts later.now) name.now }
+{
+    value_at(key, later).as_bytes() == name.as_bytes()
+}
+
+// Whether one of the three files of a network has that name.
+#[tactic(auto, unfolding(crate::specs::Words::is_read))]
+fn is_read(later: &[String], name: &str) -> bool
+    ensures { result ≡ is_read (texts later.now) name.now }
+{
+    is_named_at(Key::Stages, later, name)
+        || is_named_at(Key::Tables, later, name)
+        || is_named_at(Key::Arcs, later, name)
+}
+
+/// Whether a file that is written, where its key is given, has the name of one that is read.
+#[tactic(auto, unfolding(crate::specs::Words::is_reused))]
+pub fn is_reused(file: Option<FileWord>, later: &[String]) -> bool
+    ensures { result ≡ is_reused file (texts later.now) }
+{
+    match file {
+        Some(file) => {
+            let key = file_key(file);
+            has_key(later, key_text(key)) && is_read(later, value_at(key, later))
+        }
+        None => false,
     }
 }

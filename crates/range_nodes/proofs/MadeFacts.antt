@@ -1,6 +1,6 @@
 -- A relaxed range is a node of the search.
-use Rattle.std.proofs.Common.{◌≡◌, ℕ, ◌+◌, ◌-◌, ◌<◌, ◌≤◌, ◌*◌, ◌^◌, List, length, get_or, map, reverse, sym, ap, ◌∙◌, subst, ⊎_elim, arith}
-use Rattle.std.specs.Prelude.{All, AllPairs, Contains}
+use Rattle.std.proofs.Common.{◌≡◌, ℕ, ◌+◌, ◌-◌, ◌<◌, ◌≤◌, ◌^◌, List, length, get_or, map, reverse, sym, ap, ◌∙◌, subst, ⊎_elim, arith}
+use Rattle.std.specs.Prelude.{All}
 use Rattle.std.specs.List.{AllByRecursion}
 use Rattle.std.proofs.lemmas.Bool.{cases_lt}
 use Rattle.std.proofs.lemmas.List.{get_or-map, get_or_past, get_or_default, get_or_append_left, length-map}
@@ -20,7 +20,7 @@ use Rattle.gsm_laws.specs.Traces.{IsWhole}
 use Rattle.tree_order.specs.declared.forest.Forest.{Forest}
 use Rattle.tree_order.specs.Forest.{IsForest}
 use Rattle.arc_relax.specs.declared.relaxed.Relaxed.{Relaxed}
-use Rattle.arc_relax.specs.StageTables.{root_numbers, IsGrown}
+use Rattle.arc_relax.specs.StageTables.{IsGrown}
 use Rattle.arc_relax.specs.Laws.{HasPlan}
 use Rattle.arc_relax.specs.Relaxations.{IsRelaxed}
 use Rattle.arc_relax.proofs.CountFacts.{no_more}
@@ -39,11 +39,14 @@ few_more numbers n from to fresh =
     let most = no_more (map back numbers) n (to - from)
     (λ i low.
     let at = fresh (from + i) (omega arith) (omega (arith, low)) in
-    let is = at.2 in
-    (at.0, at.1, ⊎_elim
-    (λ within. omega (arith, is, get_or-map back numbers at.0 0 0 within))
-    (λ past. omega (arith, is, get_or_past numbers at.0 0 past, get_or_past (map back numbers) at.0 0 (omega (arith, past, length-map numbers back))))
-    (cases_lt at.0 (length numbers)))) in
+    let is = at.2 in (
+      at.0,
+      at.1,
+      ⊎_elim
+          (λ within. omega (arith, is, get_or-map back numbers at.0 0 0 within))
+          (λ past. omega (arith, is, get_or_past numbers at.0 0 past, get_or_past (map back numbers) at.0 0 (omega (arith, past, length-map numbers back))))
+          (cases_lt at.0 (length numbers)),
+    )) in
     omega (arith, most)
 
 -- there are no more new tables than stages

@@ -1,5 +1,5 @@
 -- The tables of a node and its relaxed plan.
-use Rattle.std.proofs.Common.{◌≡◌, ℕ, ◌<◌, ◌≤◌, List, length, get_or, map, reverse, Option, Some, None, sym, ap, ◌∙◌, subst, arith}
+use Rattle.std.proofs.Common.{ℕ, ◌<◌, List, length, get_or, Option, Some, None, sym, ap, subst, arith}
 use Rattle.std.specs.Prelude.{All, IfSome}
 use Rattle.std.specs.List.{AllByRecursion}
 use Rattle.std.proofs.lemmas.List.{get_or_default}
@@ -12,7 +12,6 @@ use Rattle.service_model.specs.Net.{Net}
 use Rattle.service_model.specs.Plans.{HasTimes}
 use Rattle.service_model.specs.Faults.{IsNetwork}
 use Rattle.service_model.specs.Ranges.{HasIntervals, floor_of}
-use Rattle.service_model.specs.Tables.{table_at}
 use Rattle.service_model.specs.Nodes.{below, below_roots, Fits}
 use Rattle.service_model.specs.Relaxed.{IsTableOf}
 use Rattle.service_model.specs.CertNumbers.{PlanInRange}

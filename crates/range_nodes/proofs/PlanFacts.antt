@@ -1,6 +1,5 @@
 -- The relaxed plan of a node, and its roots.
-use Rattle.std.proofs.Common.{◌≡◌, ℕ, zero, suc, ◌<◌, ◌≤◌, List, [], length, get_or, Option, Some, None, refl, sym, ap, ◌∙◌, subst, arith}
-use Rattle.std.specs.Prelude.{All}
+use Rattle.std.proofs.Common.{◌≡◌, ℕ, zero, suc, ◌<◌, ◌≤◌, List, length, get_or, Option, Some, None, refl, sym, ap, ◌∙◌, subst, arith}
 use Rattle.std.proofs.Math.ListN.{get_or-map}
 use Rattle.std.proofs.lemmas.List.Elements.{All-from_recursion}
 use Rattle.service_model.specs.declared.limits.TheConstants.{INF}
@@ -32,7 +31,7 @@ use Rattle.range_nodes.proofs.SizeFacts.{roots_few}
 use Rattle.range_nodes.proofs.RiseFacts.{roots_are, roots_rise}
 
 -- the bound of a node is that of its roots
-bound_is : (h : Held) (k : ℕ) → bound_at h k ≡ bound_of h.tables (node_at h.nodes k).roots
+pub bound_is : (h : Held) (k : ℕ) → bound_at h k ≡ bound_of h.tables (node_at h.nodes k).roots
 bound_is h k = ap (bound_of h.tables) (get_or-map (λ (x : Node). x.roots) h.nodes k no_node)
 
 -- a relaxed plan meets the arcs between a stage's table and its children

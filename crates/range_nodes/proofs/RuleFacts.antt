@@ -1,5 +1,5 @@
 -- A node of the search keeps the rules on nodes.
-use Rattle.std.proofs.Common.{◌≡◌, ℕ, ◌<◌, ◌≤◌, length, subst, arith}
+use Rattle.std.proofs.Common.{◌≡◌, ◌<◌, length, subst, arith}
 use Rattle.std.specs.Prelude.{All, IfSome, ◌==◌, slice_index}
 use Rattle.service_model.specs.declared.cert_rules.TheConstants.{BUDGET, ROOT, FITS, STAGE_TWICE, RELAXED}
 use Rattle.service_model.specs.declared.range.Range.{Range}
@@ -7,7 +7,6 @@ use Rattle.service_model.specs.declared.table.Kind.TheVariants.{Root}
 use Rattle.service_model.specs.Plans.{HasTimes}
 use Rattle.service_model.specs.Tables.{table_at}
 use Rattle.service_model.specs.Nodes.{below_roots, bound_of, Fits}
-use Rattle.service_model.specs.Held.{range_of}
 use Rattle.cert_laws.proofs.TablesKeptFacts.{either}
 use Rattle.range_nodes.specs.Laws.{NodeRulesLaw}
 use Rattle.range_nodes.proofs.NodeFacts.{each_below, fits_range, has_times, plan_in_range}

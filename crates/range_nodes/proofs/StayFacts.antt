@@ -1,4 +1,4 @@
--- A node stays one as tables come behind its own.
+-- A node and its bound stay as tables come behind the node's.
 use Rattle.std.proofs.Common.{◌≡◌, ◌≢◌, ℕ, suc, ◌<◌, List, ◌++◌, length, get_or, map, sym, ap, ◌∙◌, subst, arith, length-append}
 use Rattle.std.specs.Prelude.{All, AllPairs, Contains, sum}
 use Rattle.std.specs.List.{AllByRecursion}
@@ -9,7 +9,7 @@ use Rattle.service_model.specs.declared.range.Range.{Range}
 use Rattle.service_model.specs.declared.table.Table.{Table}
 use Rattle.service_model.specs.Net.{Net}
 use Rattle.service_model.specs.Tables.{table_at, no_table, capped, Sound}
-use Rattle.service_model.specs.Nodes.{below, below_roots, bound_of}
+use Rattle.service_model.specs.Nodes.{below, below_roots}
 use Rattle.service_model.specs.Relaxed.{IsRelaxedLeast, IsTableOf}
 use Rattle.gsm_laws.specs.Traces.{IsWhole}
 use Rattle.gsm_laws.proofs.ElementFacts.{each, flat_map_same}
@@ -18,7 +18,7 @@ use Rattle.tree_order.specs.declared.forest.Forest.{Forest}
 use Rattle.tree_tables.proofs.FillLaws.{tight_at_grown}
 use Rattle.arc_relax.specs.StageTables.{HasTable}
 use Rattle.arc_relax.specs.Laws.{HasPlan}
-use Rattle.range_nodes.specs.Laws.{NodeStaysLaw}
+use Rattle.range_nodes.specs.Laws.{NodeStaysLaw, BoundStaysLaw}
 use Rattle.range_nodes.proofs.FrontFacts.{sound_front}
 
 -- what is read of tables is the same in a longer list
@@ -29,9 +29,10 @@ same_read g tables more ks there =
     (each (λ k. k < length tables) (λ k. g (table_at (tables ++ more) k) ≡ g (table_at tables k))
     (λ k within. ap g (get_or_append_left tables more no_table k within)) ks there)
 
-bound_stays : (tables more : List Table) (roots : List ℕ) → AllByRecursion (λ k. k < length tables) roots
-    → bound_of (tables ++ more) roots ≡ bound_of tables roots
-bound_stays tables more roots there =
+pub bound_stays : BoundStaysLaw
+bound_stays n f tables more r x node =
+    let roots = x.roots in
+    let there = recursion_from_All (λ k. k < length tables) roots node.there in
     let value = λ (t : Table). get_or t.values 0 0 in
     ap capped (sym (sum-map (λ k. value (table_at (tables ++ more) k)) roots)
     ∙ ap sum (same_read value tables more roots there)
@@ -64,8 +65,7 @@ whole_stays n tables more roots sound inside whole =
 
 pub node_stays : NodeStaysLaw
 node_stays n f tables more r x searched node =
-    let there = recursion_from_All (λ k. k < length tables) x.roots node.there in
-    let bound = bound_stays tables more x.roots there in
+    let bound = bound_stays n f tables more r x node in
     record {
       numbers = node.numbers;
       stages = λ j low. table_stays n r f tables more node.numbers j (node.stages j low);

@@ -1,5 +1,5 @@
 -- The laws over the nodes of a search.
-use Rattle.std.specs.Prelude.{◌≡◌, ℕ, ◌<◌, ◌≤◌, List, [], ◌++◌, length, slice_index, All, Option, Some}
+use Rattle.std.specs.Prelude.{◌≡◌, ℕ, ◌<◌, ◌≤◌, List, [], ◌++◌, length, slice_index, All, Some}
 use Rattle.service_model.specs.declared.limits.TheConstants.{INF}
 use Rattle.service_model.specs.declared.plan.Plan.{Plan}
 use Rattle.service_model.specs.declared.range.Range.{Range}
@@ -31,6 +31,11 @@ NoTablesLaw = (n : Net) → AreSearched n []
 abbrev pub NodeStaysLaw : Type 0
 NodeStaysLaw = (n : Net) (f : Forest) (tables more : List Table) (r : Range) (x : Node) → AreSearched n (tables ++ more)
     → IsRangeNode n f tables r x → IsRangeNode n f (tables ++ more) r x
+
+-- and so does its bound
+abbrev pub BoundStaysLaw : Type 0
+BoundStaysLaw = (n : Net) (f : Forest) (tables more : List Table) (r : Range) (x : Node) → IsRangeNode n f tables r x
+    → bound_of (tables ++ more) x.roots ≡ bound_of tables x.roots
 
 -- new tables keep their rules, over those that came and those before them
 abbrev pub NewTablesLaw : Type 0

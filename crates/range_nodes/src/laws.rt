@@ -1,5 +1,5 @@
 // The laws, each as the contract of a call that does nothing.
-ghost use Rattle.range_nodes.specs.Laws.{NoTablesLaw, NodeStaysLaw, NewTablesLaw, NodeRulesLaw, RelaxedAtLaw, FeasibleFoundLaw, ShortNodeLaw, RootsLaw, TreeSolvesLaw};
+ghost use Rattle.range_nodes.specs.Laws.{NoTablesLaw, NodeStaysLaw, BoundStaysLaw, NewTablesLaw, NodeRulesLaw, RelaxedAtLaw, FeasibleFoundLaw, ShortNodeLaw, RootsLaw, TreeSolvesLaw};
 
 /// A search begins with no tables.
 pub fn no_tables_law()
@@ -9,6 +9,11 @@ pub fn no_tables_law()
 /// A node stays one as tables come behind its own.
 pub fn node_stays_law()
     ensures { NodeStaysLaw }
+{}
+
+/// A node's bound stays as tables come behind its own.
+pub fn bound_stays_law()
+    ensures { BoundStaysLaw }
 {}
 
 /// New tables keep the rules on tables.

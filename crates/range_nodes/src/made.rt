@@ -24,8 +24,8 @@ ghost use Rattle.range_nodes.specs.Nodes.{AreSearched, IsMade};
 // The node of a relaxed range, behind so many tables. The relaxed roots stand along the forest's order, from the last stage on.
 fn node_of(alloc: Global, seen: u32, relaxed: Relaxed) -> Result<Made, NoMemory>
     ensures { IfOk result (λ m. m ≡ record {
-        node = record { seen = seen; roots = reverse relaxed.roots; relaxed = relaxed.plan };
-        bound = relaxed.bound;
+      node = record { seen = seen; roots = reverse relaxed.roots; relaxed = relaxed.plan };
+      bound = relaxed.bound;
     }) }
 {
     let roots = relaxed.roots.as_slice().iter().rev().copied();

@@ -1,0 +1,3 @@
+mod LeastFacts
+mod ColumnFacts
+mod LocalFacts

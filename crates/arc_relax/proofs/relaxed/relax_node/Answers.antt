@@ -1,5 +1,5 @@
 -- The tables of all stages are made; what is read from the roots' is what the node has.
-use Rattle.std.proofs.Common.{◌<◌, ◌∙◌, ℕ, List, length, ap, sym, subst, arith}
+use Rattle.std.proofs.Common.{◌<◌, ℕ, List, length, ap, sym, subst, arith}
 use Rattle.std.specs.Prelude.{All}
 use Rattle.std.specs.List.{AllByRecursion}
 use Rattle.std.proofs.lemmas.Result.{IfOk-weaker}
@@ -7,7 +7,6 @@ use Rattle.service_model.specs.declared.table.Table.{Table}
 use Rattle.service_model.specs.Nodes.{AreTightBelow}
 use Rattle.tree_order.proofs.ForestLaws.{order_each}
 use Rattle.gsm_laws.specs.Traces.{IsWhole}
-use Rattle.arc_relax.specs.declared.relaxed.Relaxed.{Relaxed}
 use Rattle.arc_relax.specs.Relaxations.{IsRead, IsRelaxed}
 use Rattle.arc_relax.proofs.WholeFacts.{whole_node, tight_roots}
 use Rattle.arc_relax.proofs.RelaxedFacts.{all_made, roots_are, relaxed_from}

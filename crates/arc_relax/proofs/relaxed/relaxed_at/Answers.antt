@@ -1,11 +1,8 @@
 -- Each root of a whole node has one value, which is not above INF.
-use Rattle.std.proofs.Common.{ℕ, ◌<◌, ◌≤◌, List, length, get_or, sym, subst}
+use Rattle.std.proofs.Common.{◌<◌, ◌≤◌, length, get_or, sym, subst}
 use Rattle.std.specs.Prelude.{All}
-use Rattle.std.specs.List.{AllByRecursion}
 use Rattle.service_model.specs.declared.limits.TheConstants.{INF}
 use Rattle.service_model.specs.Tables.{table_at}
-use Rattle.service_model.specs.Nodes.{AreTightBelow}
-use Rattle.gsm_laws.specs.Traces.{IsWhole}
 use Rattle.arc_relax.proofs.RootFacts.{roots_there, roots_some, roots_capped}
 use Rattle.arc_relax.proofs.relaxed.relaxed_at.Goals as goal
 

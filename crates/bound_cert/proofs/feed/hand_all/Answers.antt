@@ -1,4 +1,4 @@
-use Rattle.std.proofs.Common.{◌+◌, ◌++◌, length, drop, get_or, ap, ◌∙◌, arith, length-append}
+use Rattle.std.proofs.Common.{◌+◌, ◌++◌, drop, get_or, ap, ◌∙◌, arith, length-append}
 use Rattle.bound_cert.specs.Stream.{reads, behind, read_byte}
 use Rattle.bound_cert.proofs.StreamFacts.{read_byte_counts, next_byte}
 use Rattle.bound_cert.proofs.FeedFacts.{took_more, step_on, refused_step}

@@ -1,4 +1,4 @@
-use Rattle.std.proofs.Common.{◌≡◌, ◌≤◌, ◌+◌, ◌++◌, List, length, drop}
+use Rattle.std.proofs.Common.{◌≡◌, ◌+◌, List, length, drop}
 use Rattle.service_model.specs.declared.cert.Item.{Item}
 use Rattle.service_model.specs.Takers.{state_of}
 use Rattle.bound_cert.specs.Stream.{reads, behind}

@@ -1,4 +1,4 @@
-use Rattle.std.proofs.Common.{rules, ◌≡◌, Bool, true, false, [], arith}
+use Rattle.std.proofs.Common.{rules, ◌≡◌, true, false, [], arith}
 use Rattle.bound_cert.specs.Stream.{has_begun, closed, line_done}
 use Rattle.bound_cert.proofs.StreamFacts.{line_done_counts}
 use Rattle.bound_cert.proofs.FeedFacts.{took_none, took_more, step_on, refused_step, closed_behind}

@@ -1,6 +1,27 @@
-use Rattle.planner_top.specs.Runs.{run_of}
-use Rattle.planner_top.proofs.HeadlineFacts.{fault_case}
+use Rattle.std.proofs.Common.{ℕ, List, Option, ◌∙◌, subst}
+use Rattle.gsm_outside.specs.Held.{Held}
+use Rattle.planner_top.specs.Asked.{cert_name}
+use Rattle.planner_top.specs.Certificates.{bytes_in}
+use Rattle.planner_top.specs.Runs.{run_of, given_of, GivenCase}
+use Rattle.planner_top.proofs.StatusFacts.{given_case, fault_case}
 use Rattle.planner_top.proofs.top.run_cases.Goals as goal
+
+pub returns-in-Ok-clause-case : goal.returns-in-Ok-clause-case
+returns-in-Ok-clause-case g c =
+    let case = c.in-Ok.ensures.case in
+    let shelf = c.args.shelf.now in
+    let middle = c.answer_of.new.shelf in
+    let after = c.give.new.shelf in
+    let out = c.args.out.now in
+    let out_after = c.give.new.out in
+    let asked : Option (List ℕ) = cert_name c.args.words.now in
+    let run = run_of c.args.words.now (g.S.Shelf.held shelf) (g.S.Shelf.held after) (g.S.Shelf.read_faults shelf) (g.S.Shelf.read_faults after) (g.S.Shelf.write_faults shelf) (g.S.Shelf.write_faults after) (g.K.Sink.written out) (g.K.Sink.written out_after) (g.K.Sink.faults out) (g.K.Sink.faults out_after) c.args.steps.now c.answer_of.new.steps c.give.result in
+    let by : Option (List ℕ) → Option Held → ℕ → Type 0 = λ name held writes.
+    GivenCase (given_of c.in-Ok.answer.ending c.in-Ok.answer.rows name (bytes_in c.in-Ok.answer.cert) held (g.S.Shelf.held after) writes (g.S.Shelf.write_faults after) (g.K.Sink.written out) (g.K.Sink.written out_after) (g.K.Sink.faults out) (g.K.Sink.faults out_after)) c.give.result in
+    let named : by asked (g.S.Shelf.held middle) (g.S.Shelf.write_faults middle) = subst (λ (name : Option (List ℕ)). by name (g.S.Shelf.held middle) (g.S.Shelf.write_faults middle)) c.cert_name.ensures c.give.ensures.case in
+    let held : by asked (g.S.Shelf.held shelf) (g.S.Shelf.write_faults middle) = subst (λ (held : Option Held). by asked held (g.S.Shelf.write_faults middle)) c.answer_of.ensures.held named in
+    let given : by asked (g.S.Shelf.held shelf) (g.S.Shelf.write_faults shelf) = subst (λ (writes : ℕ). by asked (g.S.Shelf.held shelf) writes) c.answer_of.ensures.writes held in
+    given_case run c.in-Ok.answer.ending c.in-Ok.answer.rows (bytes_in c.in-Ok.answer.cert) case.1.0 c.give.result (c.give.ensures.reads ∙ case.0) case.1.1 case.1.2 given
 
 pub returns-in-Err-Fault-clause-case : goal.returns-in-Err-Fault-clause-case
 returns-in-Err-Fault-clause-case g c =
@@ -10,4 +31,5 @@ returns-in-Err-Fault-clause-case g c =
     let out = c.args.out.now in
     let out_after = c.print_fault.new.out in
     let run = run_of c.args.words.now (g.S.Shelf.held shelf) (g.S.Shelf.held shelf_after) (g.S.Shelf.read_faults shelf) (g.S.Shelf.read_faults shelf_after) (g.S.Shelf.write_faults shelf) (g.S.Shelf.write_faults shelf_after) (g.K.Sink.written out) (g.K.Sink.written out_after) (g.K.Sink.faults out) (g.K.Sink.faults out_after) c.args.steps.now c.answer_of.new.steps c.print_fault.result in
-    fault_case run c.in-Err-Fault.file c.print_fault.result case.0 case.1 case.2 case.3 c.print_fault.ensures
+    fault_case run c.in-Err-Fault.file c.print_fault.result case.0
+    (record { rose = case.1; ticks = case.3; unread = case.2; held = c.answer_of.ensures.held; writes = c.answer_of.ensures.writes }) c.print_fault.ensures

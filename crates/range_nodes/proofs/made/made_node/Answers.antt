@@ -1,7 +1,5 @@
-use Rattle.std.proofs.Common.{◌≡◌, length, ap, ◌∙◌, arith}
+use Rattle.std.proofs.Common.{◌≡◌, length, ap, arith}
 use Rattle.std.proofs.lemmas.Result.{IfOk-weaker}
-use Rattle.std.specs.Prelude.{reverse}
-use Rattle.service_model.specs.declared.cert.Node.{Node}
 use Rattle.arc_relax.proofs.MadeFacts.{on_error}
 use Rattle.range_nodes.specs.declared.made.Made.{Made}
 use Rattle.range_nodes.specs.Nodes.{IsMade}

@@ -1,0 +1,99 @@
+// The answer of `check`.
+ghost use Rattle.std.specs.Prelude.{◌≡◌, ◌≤◌, ◌∷◌, [], length, IfOk, IfSome, None};
+ghost use Rattle.service_model.specs.Plans.{Feasible};
+ghost use Rattle.service_model.specs.Verdicts.{IsTrueOf};
+ghost use Rattle.planner_top.specs.Texts.{valid_row, cost_text, not_accepted_row, cert_rule_text};
+ghost use Rattle.planner_top.specs.Answers.{IsCheck};
+
+use crate::answer::{Answer, Ending};
+use crate::files::CERT_LIMIT;
+use crate::text::{number, numbered, row_of};
+use cert_check::{CheckFault, SPLIT_NOT_YET, check_bytes};
+use network_check::Checked;
+use service_model::{List, Network, NoMemory, Outcome, Plan, Verdict};
+use stage_file::{Row, Rows, Text};
+use std::alloc::Global;
+
+/// The verdict with which a certificate is accepted, or the first rule that fails on it, with its line.
+pub fn check_of(alloc: Global, checked: &Checked, bytes: &[u8]) -> Result<Answer, NoMemory>
+    requires { length bytes.now ≤ CERT_LIMIT }
+    ensures check { IfOk result (λ a. IsCheck a.ending a.rows checked.now bytes.now) }
+    ensures none { IfOk result (λ a. a.cert ≡ None) }
+{
+    match check_bytes(alloc, &checked.network, bytes) {
+        Ok(verdict) => Ok(Answer {
+            ending: Ending::Done,
+            rows: valid_rows(alloc, &checked.network, &verdict)?,
+            cert: None,
+        }),
+        Err(CheckFault::Fault(fault)) => Ok(Answer {
+            ending: Ending::NotAccepted,
+            rows: not_accepted_rows(alloc, fault.line, fault.rule)?,
+            cert: None,
+        }),
+        Err(CheckFault::NoMemory) => Err(NoMemory),
+    }
+}
+
+fn valid_rows(alloc: Global, network: &Network, verdict: &Verdict) -> Result<Rows, NoMemory>
+    requires { IsTrueOf network.now verdict.now }
+    ensures { IfOk result (λ rows. rows ≡ valid_row network.now verdict.now ∷ []) }
+{
+    let mut rows = List::new(alloc);
+    rows.push(valid_row(alloc, network, verdict)?)?;
+    Ok(rows)
+}
+
+fn valid_row(alloc: Global, network: &Network, verdict: &Verdict) -> Result<Row, NoMemory>
+    requires { IsTrueOf network.now verdict.now }
+    ensures { IfOk result (λ row. row ≡ valid_row network.now verdict.now) }
+{
+    match verdict.outcome {
+        Outcome::Optimal => {
+            let mut row = row_of(alloc, &["valid", "optimal"])?;
+            row.push(cost_text(alloc, network, &verdict.plan)?)?;
+            Ok(row)
+        }
+        Outcome::Infeasible => row_of(alloc, &["valid", "infeasible"]),
+        Outcome::Spent => {
+            let mut row = row_of(alloc, &["valid", "spent"])?;
+            row.push(number(alloc, verdict.bound)?)?;
+            row.push(cost_text(alloc, network, &verdict.plan)?)?;
+            Ok(row)
+        }
+    }
+}
+
+// The cost of a plan, and a dash where there is none.
+fn cost_text(alloc: Global, network: &Network, plan: &Option<Plan>) -> Result<Text, NoMemory>
+    requires { IfSome plan.now (Feasible network.now) }
+    ensures { IfOk result (λ text. text ≡ cost_text network.now plan.now) }
+{
+    match plan {
+        Some(plan) => number(alloc, network.cost(plan)),
+        None => List::copied(alloc, b"-"),
+    }
+}
+
+fn not_accepted_rows(alloc: Global, line: u64, rule: u8) -> Result<Rows, NoMemory>
+    ensures { IfOk result (λ rows. rows ≡ not_accepted_row line rule ∷ []) }
+{
+    let mut row = row_of(alloc, &["not accepted"])?;
+    row.push(number(alloc, line)?)?;
+    row.push(rule_text(alloc, rule)?)?;
+    let mut rows = List::new(alloc);
+    rows.push(row)?;
+    Ok(rows)
+}
+
+// A rule on certificates: its number behind a `K`, or the name of what is not checked yet.
+#[tactic(auto, unfolding(crate::specs::Texts::cert_rule_text))]
+fn rule_text(alloc: Global, rule: u8) -> Result<Text, NoMemory>
+    ensures { IfOk result (λ text. text ≡ cert_rule_text rule) }
+{
+    if rule == SPLIT_NOT_YET {
+        List::copied(alloc, b"SplitNotYet")
+    } else {
+        numbered(alloc, b"K", rule as u64)
+    }
+}
