@@ -8,3 +8,4 @@ mod ItemsFacts
 mod FirstFacts
 mod LeavesFacts
 mod StepFacts
+mod LeafStepFacts

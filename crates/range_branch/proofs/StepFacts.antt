@@ -235,6 +235,12 @@ open_grown n f budget old front back p leaf c left right x y leaves found h v =
     grown_law (cert_with n budget old p v) c.split front back x.node y.node (h.is.whole v)
     (omega (arith, h.left_seen, first)) (omega (arith, h.right_seen, first, second))
 
+-- as many ranges as nodes
+pub many_ranges : (n : Net) (f : Forest) (budget : ℕ) (tables : List Table) (p : Progress) → IsProgress n f budget tables p → length p.ranges ≡ length p.nodes
+many_ranges n f budget tables p is =
+    ap (λ (ys : List Range). length ys) is.ranges ∙ length-ranges_of n (cuts_of n (came n budget tables p))
+    ∙ ap (λ m. 2 * m + 1) (many_cuts n budget tables p) ∙ sym (many_nodes n f budget tables p is)
+
 -- the nodes are their ranges
 nodes_at : (n : Net) (f : Forest) (budget : ℕ) (old front back : List Table) (p : Progress) (leaf : Leaf) (c : Cutting) (left right : Range) (x y : Made)
     (leaves : List Leaf) (found : Option Plan) → AreSplitHalves n f budget old front back p leaf c left right x y → (k : ℕ) → k < length p.nodes + 2
@@ -243,9 +249,7 @@ nodes_at n f budget old front back p leaf c left right x y leaves found h k with
     let tables = (old ++ front) ++ back in
     let rs = (p.ranges ++ left ∷ []) ++ right ∷ [] in
     let xs = (p.nodes ++ x.node ∷ []) ++ y.node ∷ [] in
-    let long : length p.ranges ≡ length p.nodes =
-      ap (λ (ys : List Range). length ys) h.is.ranges ∙ length-ranges_of n (cuts_of n (came n budget old p))
-      ∙ ap (λ m. 2 * m + 1) (many_cuts n budget old p) ∙ sym (many_nodes n f budget old p h.is) in
+    let long = many_ranges n f budget old p h.is in
     let at = λ (r : Range) (z : Node) (inside : IsInside n r) (node : IsRangeNode n f tables r z) (range_is : range_at rs k ≡ r) (node_is : node_at xs k ≡ z).
       (let found : IsNodeAt n f tables (split_of p c.split left right x.node y.node leaves found) k = record {
         range = subst (IsInside n) (sym range_is) inside;

@@ -132,5 +132,6 @@ pub fn split_leaf<L>(
     };
     let range = progress.ranges.get(leaf.node as usize);
     let halves = made_halves(alloc, given, range, cutting, pool, steps)?;
-    with_halves(alloc, given, progress, leaf, cutting.split, halves)
+    let next = with_halves(alloc, given, progress, leaf, cutting.split, halves)?;
+    Ok(next)
 }

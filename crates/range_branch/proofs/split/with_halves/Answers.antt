@@ -1,4 +1,4 @@
-use Rattle.range_branch.proofs.StepFacts.{split_of, AreSplitHalves}
+use Rattle.range_branch.proofs.LeafStepFacts.{not_met, cutting_is, relaxed_times, found_is_feasible}
 use Rattle.range_branch.proofs.InsideFacts.{ended_inside, started_inside}
 use Rattle.range_branch.proofs.SplittingFacts.{next_leaf, split_at}
 use Rattle.range_branch.proofs.LeavesFacts.{leaves_more}
