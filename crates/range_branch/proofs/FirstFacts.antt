@@ -89,8 +89,7 @@ first_keeps n f budget tables x valid forest some most searched intervals node =
     let ts = tables_law n h tables refl refl (new_tables n [] tables valid searched) in
     let rules = node_rules n f (holding n budget tables) (whole_of n) x valid forest intervals searched refl node some in
     let item = keeps n (holding n budget tables) (NodeItem x) rules.1 refl refl refl rules.0 in
-    let both = AllKeep-append n h (map TableItem tables) (NodeItem x ∷ []) ts.0 (subst (λ (g : Held). AllKeep n g (NodeItem x ∷ [])) (sym ts.1) (item, tt)) in
-    (
+    let both = AllKeep-append n h (map TableItem tables) (NodeItem x ∷ []) ts.0 (subst (λ (g : Held). AllKeep n g (NodeItem x ∷ [])) (sym ts.1) (item, tt)) in (
       (keeps_head n budget valid some most, both),
       held_after-append h (map TableItem tables) (NodeItem x ∷ []) ∙ ap (λ (g : Held). held_with g (NodeItem x)) ts.1,
     )
@@ -104,8 +103,7 @@ first_leaves : (tables : List Table) (x : Node) (bound : ℕ) (leaves : List Lea
 first_leaves tables x bound leaves is own q = (
   λ there.
       let same = (own q).0 there in
-      let at : q.node ≡ 0 = ap (λ (l : Leaf). l.node) same in
-      (
+      let at : q.node ≡ 0 = ap (λ (l : Leaf). l.node) same in (
         record { there = omega (arith, at); not_cut = λ k d within. absurd (omega (arith, within)) },
         ap (λ (l : Leaf). l.bound) same ∙ is ∙ ap (λ k. bound_of tables (get_or (x.roots ∷ []) k [])) (sym at),
       ),
@@ -114,6 +112,7 @@ first_leaves tables x bound leaves is own q = (
       let at : q.node ≡ 0 = omega (arith, there) in
       (own q).1 (same_leaf q bound 0 (leaf.1 ∙ ap (λ k. bound_of tables (get_or (x.roots ∷ []) k [])) at ∙ sym is) at),
 )
+
 first_node : (n : Net) (f : Forest) (tables : List Table) (r : Range) (m : Made) (found : Option Plan) (leaves : List Leaf) → IsInside n r
     → IsRangeNode n f tables r m.node → (k : ℕ) → k < 1 → IsNodeAt n f tables (first_of r m found leaves) k
 first_node n f tables r m found leaves inside node zero within = record { range = inside; node = node }

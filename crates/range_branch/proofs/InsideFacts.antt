@@ -18,8 +18,7 @@ pub ended_inside : (n : Net) (r : Range) (i v : ℕ) → IsInside n r → HoldsT
 ended_inside n r i v inside holds intervals = record {
   intervals = intervals;
   inside = λ j low.
-      let old = inside.inside j low in
-      (
+      let old = inside.inside j low in (
         old.0,
         entry r.most i j v (λ k. k ≤ (stage_at n j).most) holds.most_there
             (λ same. let late = holds.not_late in omega (arith, old.1, late, ap (λ k. get_or r.most k 0) same)) old.1,
@@ -30,8 +29,7 @@ pub started_inside : (n : Net) (r : Range) (i v : ℕ) → IsInside n r → Hold
 started_inside n r i v inside holds intervals = record {
   intervals = intervals;
   inside = λ j low.
-      let old = inside.inside j low in
-      (
+      let old = inside.inside j low in (
         entry r.least i j (v + 1) (λ k. (stage_at n j).least ≤ k) holds.least_there
             (λ same. let early = holds.not_early in omega (arith, old.0, early, ap (λ k. get_or r.least k 0) same)) old.0,
         old.1,

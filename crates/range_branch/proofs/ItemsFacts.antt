@@ -50,8 +50,7 @@ node_keeps n f budget old more nodes splits r x valid forest next =
     let g = showing n budget (old ++ more) nodes splits in
     let ts = tables_law n h more refl refl (new_tables n old more valid next.searched) in
     let rules = node_rules n f g r x valid forest next.intervals next.searched next.range next.node next.within in
-    let item = keeps n g (NodeItem x) rules.1 refl refl (le-ltb (2 * length splits) (length nodes) next.placed) rules.0 in
-    (
+    let item = keeps n g (NodeItem x) rules.1 refl refl (le-ltb (2 * length splits) (length nodes) next.placed) rules.0 in (
       AllKeep-append n h (map TableItem more) (NodeItem x ∷ []) ts.0 (subst (λ (k : Held). AllKeep n k (NodeItem x ∷ [])) (sym ts.1) (item, tt)),
       held_after-append h (map TableItem more) (NodeItem x ∷ []) ∙ ap (λ (k : Held). held_with k (NodeItem x)) ts.1,
     )
@@ -74,8 +73,7 @@ pub all_keep : (n : Net) (f : Forest) (budget : ℕ) (old front back : List Tabl
 all_keep n f budget old front back nodes splits s left right x y valid forest split one two =
     let h = showing n budget old nodes (splits ++ s ∷ []) in
     let first = node_keeps n f budget old front nodes (splits ++ s ∷ []) left x valid forest one in
-    let second = node_keeps n f budget (old ++ front) back (nodes ++ x ∷ []) (splits ++ s ∷ []) right y valid forest two in
-    (
+    let second = node_keeps n f budget (old ++ front) back (nodes ++ x ∷ []) (splits ++ s ∷ []) right y valid forest two in (
       (split, AllKeep-append n h (node_items front x) (node_items back y) first.0 (subst (λ (k : Held). AllKeep n k (node_items back y)) (sym first.1) second.0)),
       held_after-append h (node_items front x) (node_items back y) ∙ ap (λ (k : Held). held_after k (node_items back y)) first.1 ∙ second.1,
     )

@@ -73,7 +73,7 @@ next_is n p next leaf s h is =
     ∙ ap (λ (xs : List Split). record { nodes = (p.nodes ++ h.left_made.node ∷ []) ++ h.right_made.node ∷ []; splits = xs; ranges = next.ranges; leaves = next.leaves; found = next.found }) is.splits
     ∙ ap (λ (xs : List Range). record { nodes = (p.nodes ++ h.left_made.node ∷ []) ++ h.right_made.node ∷ []; splits = p.splits ++ s ∷ []; ranges = xs; leaves = next.leaves; found = next.found }) is.ranges
 
-rows_more : (k s : ℕ) → (k + 2) * s ≡ k * s + 2 * s
+pub rows_more : (k s : ℕ) → (k + 2) * s ≡ k * s + 2 * s
 rows_more k s = grind arith
 
 -- the halves' relaxed plans can be repaired
@@ -82,9 +82,9 @@ pub halves_repairable : (n : Net) (f : Forest) (r : Range) (c : Cutting) (old ne
     → IfSome h.left_made.node.relaxed (IsRepairable n) × IfSome h.right_made.node.relaxed (IsRepairable n)
 halves_repairable n f r c old new count count' h inside holds halves =
     let left = subst (IsInside n) (sym halves.left_is)
-      (ended_inside n r c.split.supplier c.last inside holds (subst (HasIntervals n) halves.left_is halves.left_intervals)) in
+    (ended_inside n r c.split.supplier c.last inside holds (subst (HasIntervals n) halves.left_is halves.left_intervals)) in
     let right = subst (IsInside n) (sym halves.right_is)
-      (started_inside n r c.split.supplier c.last inside holds (subst (HasIntervals n) halves.right_is halves.right_intervals)) in
+    (started_inside n r c.split.supplier c.last inside holds (subst (HasIntervals n) halves.right_is halves.right_intervals)) in
     (repairable n f halves.between h.left h.left_made.node left halves.left.node, repairable n f new h.right h.right_made.node right halves.right.node)
 
 -- the search behind the split
@@ -99,13 +99,13 @@ stepped n f budget old new count count' p next leaf q c h valid most forest is l
     let all : new ≡ (old ++ front) ++ back = second_more ∙ ap (λ (ts : List Table). ts ++ back) first_more in
     let one = subst (λ (ts : List Table). IsMade n f h.left old ts count halves.steps h.left_made) first_more halves.left in
     let two = subst (λ (ts : List Table). IsMade n f h.right (old ++ front) ts halves.steps count' h.right_made) all
-      (subst (λ (ts : List Table). IsMade n f h.right ts new halves.steps count' h.right_made) first_more halves.right) in
+    (subst (λ (ts : List Table). IsMade n f h.right ts new halves.steps count' h.right_made) first_more halves.right) in
     let inside = (is.nodes leaf.node leaf_next.within).range in
     let r = range_at p.ranges leaf.node in
     let left_inside = subst (IsInside n) (sym halves.left_is)
-      (ended_inside n r c.split.supplier c.last inside at.holds (subst (HasIntervals n) halves.left_is halves.left_intervals)) in
+    (ended_inside n r c.split.supplier c.last inside at.holds (subst (HasIntervals n) halves.left_is halves.left_intervals)) in
     let right_inside = subst (IsInside n) (sym halves.right_is)
-      (started_inside n r c.split.supplier c.last inside at.holds (subst (HasIntervals n) halves.right_is halves.right_intervals)) in
+    (started_inside n r c.split.supplier c.last inside at.holds (subst (HasIntervals n) halves.right_is halves.right_intervals)) in
     let both : AreSplitHalves n f budget old front back p leaf c h.left h.right h.left_made h.right_made = record {
       valid = valid;
       most = most;
@@ -135,8 +135,7 @@ stepped n f budget old new count count' p next leaf q c h valid most forest is l
     let second_few = two.few in
     let rows = ap (λ k. k * length n.stages) long ∙ rows_more (length p.nodes) (length n.stages) in
     let on = goes_on_with n f budget old front back p leaf q c h.left h.right h.left_made h.right_made next.leaves split.between next.found both least there cutting
-      split.leaves split.left split.right (omega (arith, rows, few, first_few, second_few)) in
-    (
+    split.leaves split.left split.right (omega (arith, rows, few, first_few, second_few)) in (
       subst (λ (ts : List Table). IsProgress n f budget ts next) (sym all)
           (subst (IsProgress n f budget ((old ++ front) ++ back)) (sym (next_is n p next leaf c.split h split)) on),
       ap (λ (xs : List Node). length xs) split.nodes ∙ long,

@@ -45,38 +45,37 @@ pub leaves_more : (n : Net) (old new : List Table) (roots : List (List ℕ)) (xs
 leaves_more n old new roots xs ys cuts c leaf left right before after is are there replaced q =
     let rule = leaves_law n cuts c q.node is.cuts_are is.cut in
     let change = replaced q in
-    let many = is.many in
-    (
+    let many = is.many in (
       λ now. ⊎_elim
           (λ kept.
-            let own = (are q).0 kept.0 in
-            let low : q.node < length roots = let low = own.0.there in omega (arith, low, many) in
-            let apart : q.node ≢ c.node = λ same.
-                let leaf_own = (are leaf).0 there in
-                let at : q.node ≡ leaf.node = same ∙ sym is.named in
-                kept.1 (same_leaf q leaf.bound leaf.node (own.1 ∙ ap (node_bound old roots) at ∙ sym leaf_own.1) at) in
-            (rule.1 (inl (own.0, apart)), own.1 ∙ sym (is.same q.node low) ∙ sym (old_bound new roots xs ys q.node low)))
+          let own = (are q).0 kept.0 in
+          let low : q.node < length roots = let low = own.0.there in omega (arith, low, many) in
+          let apart : q.node ≢ c.node = λ same.
+          let leaf_own = (are leaf).0 there in
+          let at : q.node ≡ leaf.node = same ∙ sym is.named in
+          kept.1 (same_leaf q leaf.bound leaf.node (own.1 ∙ ap (node_bound old roots) at ∙ sym leaf_own.1) at) in
+          (rule.1 (inl (own.0, apart)), own.1 ∙ sym (is.same q.node low) ∙ sym (old_bound new roots xs ys q.node low)))
           (λ half. ⊎_elim
-            (λ same.
-              let at : q.node ≡ length roots = ap (λ (l : Leaf). l.node) (same ∙ is.left_is) in
-              (rule.1 (inr (inl (omega (arith, at, many)))), ap (λ (l : Leaf). l.bound) (same ∙ is.left_is) ∙ sym (left_bound new roots xs ys q.node at)))
-            (λ same.
-              let at : q.node ≡ length roots + 1 = ap (λ (l : Leaf). l.node) (same ∙ is.right_is) in
-              (rule.1 (inr (inr (omega (arith, at, many)))), ap (λ (l : Leaf). l.bound) (same ∙ is.right_is) ∙ sym (right_bound new roots xs ys q.node at)))
-            half)
+          (λ same.
+          let at : q.node ≡ length roots = ap (λ (l : Leaf). l.node) (same ∙ is.left_is) in
+          (rule.1 (inr (inl (omega (arith, at, many)))), ap (λ (l : Leaf). l.bound) (same ∙ is.left_is) ∙ sym (left_bound new roots xs ys q.node at)))
+          (λ same.
+          let at : q.node ≡ length roots + 1 = ap (λ (l : Leaf). l.node) (same ∙ is.right_is) in
+          (rule.1 (inr (inr (omega (arith, at, many)))), ap (λ (l : Leaf). l.bound) (same ∙ is.right_is) ∙ sym (right_bound new roots xs ys q.node at)))
+          half)
           (change.0 now),
       λ own. ⊎_elim
           (λ kept.
-            let low : q.node < length roots = let low = kept.0.there in omega (arith, low, many) in
-            let was = (are q).1 (kept.0, own.1 ∙ old_bound new roots xs ys q.node low ∙ is.same q.node low) in
-            change.1 (inl (was, λ same. kept.1 (ap (λ (l : Leaf). l.node) same ∙ is.named))))
+          let low : q.node < length roots = let low = kept.0.there in omega (arith, low, many) in
+          let was = (are q).1 (kept.0, own.1 ∙ old_bound new roots xs ys q.node low ∙ is.same q.node low) in
+          change.1 (inl (was, λ same. kept.1 (ap (λ (l : Leaf). l.node) same ∙ is.named))))
           (λ half. ⊎_elim
-            (λ at'.
-              let at : q.node ≡ length roots = omega (arith, at', many) in
-              change.1 (inr (inl (same_leaf q (bound_of new xs) (length roots) (own.1 ∙ left_bound new roots xs ys q.node at) at ∙ sym is.left_is))))
-            (λ at'.
-              let at : q.node ≡ length roots + 1 = omega (arith, at', many) in
-              change.1 (inr (inr (same_leaf q (bound_of new ys) (length roots + 1) (own.1 ∙ right_bound new roots xs ys q.node at) at ∙ sym is.right_is))))
-            half)
+          (λ at'.
+          let at : q.node ≡ length roots = omega (arith, at', many) in
+          change.1 (inr (inl (same_leaf q (bound_of new xs) (length roots) (own.1 ∙ left_bound new roots xs ys q.node at) at ∙ sym is.left_is))))
+          (λ at'.
+          let at : q.node ≡ length roots + 1 = omega (arith, at', many) in
+          change.1 (inr (inr (same_leaf q (bound_of new ys) (length roots + 1) (own.1 ∙ right_bound new roots xs ys q.node at) at ∙ sym is.right_is))))
+          half)
           (rule.0 own.0),
     )

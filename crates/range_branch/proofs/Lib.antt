@@ -9,3 +9,5 @@ mod FirstFacts
 mod LeavesFacts
 mod StepFacts
 mod LeafStepFacts
+mod SearchFacts
+mod EndedFacts

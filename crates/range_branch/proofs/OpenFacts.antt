@@ -44,9 +44,9 @@ below n relaxed (Some q) least p found not_closed is =
     let low = found.least is.node is.kind p is.candidate in
     ⊎_elim (λ high. omega (arith, high, low)) (λ closes. absurd (not_closed closes)) (cases_lt least (cost_of n q))
 
-pub is_open : (n : Net) (h : Held) (k : ℕ) (found : Option Plan) (least nodes budget : ℕ) → Found n (relaxed_of h) found → bound_at h k ≡ least
-    → GoesOn n found least nodes budget → IsOpen n h k
-is_open n h k found least nodes budget is same on = record {
-  finite = let other = on.finite in ⊎_elim (λ low. low) (λ high. absurd (other (omega (arith, same, high)))) (cases_lt (bound_at h k) INF);
-  below = λ p best. let low = below n (relaxed_of h) found least p is on.unclosed best in omega (arith, low, same);
+pub is_open : (n : Net) (h : Held) (k : ℕ) (found : Option Plan) (least : ℕ) → Found n (relaxed_of h) found → bound_at h k ≡ least
+    → ¬ Closes n found least → least ≢ INF → IsOpen n h k
+is_open n h k found least is same not_closed finite = record {
+  finite = ⊎_elim (λ low. low) (λ high. absurd (finite (omega (arith, same, high)))) (cases_lt (bound_at h k) INF);
+  below = λ p best. let low = below n (relaxed_of h) found least p is not_closed best in omega (arith, low, same);
 }

@@ -41,8 +41,7 @@ pub replaced : (old rest mid new : List Leaf) (x leaf left right : Leaf) → old
 replaced old rest mid new x leaf left right parts least before one two =
     let first = is_first x leaf rest (subst (λ xs. IsLeastOf xs leaf) parts least) before in
     λ q.
-    let kept = rest_is x leaf rest q first before in
-    (
+    let kept = rest_is x leaf rest q first before in (
       λ now. ⊎_elim
           (λ inner. ⊎_elim
           (λ there. let both = kept.0 there in inl (subst (λ xs. Contains xs q) (sym parts) both.0, both.1))

@@ -79,7 +79,7 @@ next_leaf n f budget tables p leaf valid forest is least unended =
     let cuts = many_cuts n budget tables p in
     let within : leaf.node < length p.nodes = let there = own.0.there in omega (arith, there, many, cuts) in
     let bound : bound_at h leaf.node ≡ leaf.bound = sym own.1 in
-    let opened = is_open n h leaf.node p.found leaf.bound (length p.nodes) budget is.found bound on in
+    let opened = is_open n h leaf.node p.found leaf.bound is.found bound on.unclosed on.finite in
     let range : range_at p.ranges leaf.node ≡ range_of n h leaf.node = ap (λ (rs : List Range). range_at rs leaf.node) is.ranges in
     let node = subst (λ (r : Range). IsRangeNode n f tables r (node_at p.nodes leaf.node)) range (is.nodes leaf.node within).node in
     record {
@@ -109,18 +109,18 @@ split_at n budget tables p leaf q c valid is there cutting =
     let a = cutting.arc in
     let x = arc_in n.arcs a in
     let plan : relaxed_at p.nodes s.node ≡ q =
-      ap (λ k. relaxed_at p.nodes k) cutting.node_is ∙ ap (λ (o : Option Plan). unwrap_or o no_plan) there in
+    ap (λ k. relaxed_at p.nodes k) cutting.node_is ∙ ap (λ (o : Option Plan). unwrap_or o no_plan) there in
     let breaks = break_law n h s a valid (subst (λ (r : Plan). IsMostBroken n r a) (sym plan) cutting.broken) cutting.supplier cutting.customer in
     let next = subst (IsNext n h) (sym cutting.node_is) is.next in
     let relaxed = subst (IsRelaxedAt n h) (sym cutting.node_is) is.relaxed in
     let (cut, holds, more) = cut_law n h s valid is.cuts next relaxed breaks in
     let transit : transit_in n.arcs s.supplier s.customer ≡ x.transit =
-      ap (λ k. transit_in n.arcs k s.customer) cutting.supplier ∙ ap (λ k. transit_in n.arcs x.supplier k) cutting.customer
-      ∙ transit_in-arc n a valid cutting.broken.there in
+    ap (λ k. transit_in n.arcs k s.customer) cutting.supplier ∙ ap (λ k. transit_in n.arcs x.supplier k) cutting.customer
+    ∙ transit_in-arc n a valid cutting.broken.there in
     let last : (cut_by n p.nodes s).last ≡ c.last =
-      ap (λ (r : Plan). inbound_at r s.customer - transit_in n.arcs s.supplier s.customer) plan
-      ∙ ap (λ k. inbound_at q k - transit_in n.arcs s.supplier s.customer) cutting.customer
-      ∙ ap (λ k. inbound_at q x.customer - k) transit ∙ sym cutting.last in
+    ap (λ (r : Plan). inbound_at r s.customer - transit_in n.arcs s.supplier s.customer) plan
+    ∙ ap (λ k. inbound_at q k - transit_in n.arcs s.supplier s.customer) cutting.customer
+    ∙ ap (λ k. inbound_at q x.customer - k) transit ∙ sym cutting.last in
     let range : range_of n h s.node ≡ range_at p.ranges leaf.node = ap (range_of n h) cutting.node_is ∙ sym is.range in
     record {
       breaks = breaks;

@@ -170,9 +170,9 @@ new_ranges n f budget old front back p leaf c left right x y h =
     let rs = ranges_of n cuts in
     let range : range_at p.ranges leaf.node ≡ range_at rs s.node = ap (λ (ys : List Range). range_at ys leaf.node) h.is.ranges ∙ ap (range_at rs) (sym h.node_is) in
     let left_half : left ≡ ended (range_at rs s.node) s.supplier cut.last =
-      h.left_is ∙ ap (λ (r : Range). ended r s.supplier c.last) range ∙ ap (λ k. ended (range_at rs s.node) s.supplier k) (sym h.at.last) in
+    h.left_is ∙ ap (λ (r : Range). ended r s.supplier c.last) range ∙ ap (λ k. ended (range_at rs s.node) s.supplier k) (sym h.at.last) in
     let right_half : right ≡ started (range_at rs s.node) s.supplier cut.last =
-      h.right_is ∙ ap (λ (r : Range). started r s.supplier c.last) range ∙ ap (λ k. started (range_at rs s.node) s.supplier k) (sym h.at.last) in
+    h.right_is ∙ ap (λ (r : Range). started r s.supplier c.last) range ∙ ap (λ k. started (range_at rs s.node) s.supplier k) (sym h.at.last) in
     append_assoc p.ranges (left ∷ []) (right ∷ [])
     ∙ ap (λ (ys : List Range). ys ++ left ∷ right ∷ []) h.is.ranges
     ∙ ap (λ (r : Range). rs ++ r ∷ right ∷ []) left_half
@@ -203,7 +203,7 @@ new_items n f budget old front back p leaf c left right x y h =
     let splits = length_push p.splits c.split in
     let s = c.split in
     let rules = split_law n (came n budget old p) s (subst (IsNext n (came n budget old p)) (sym h.node_is) h.next.next)
-      (subst (IsOpen n (came n budget old p)) (sym h.node_is) h.next.opened) (subst (IsRelaxedAt n (came n budget old p)) (sym h.node_is) h.next.relaxed) h.at.breaks in
+    (subst (IsOpen n (came n budget old p)) (sym h.node_is) h.next.opened) (subst (IsRelaxedAt n (came n budget old p)) (sym h.node_is) h.next.relaxed) h.at.breaks in
     let split = split_keeps n budget old p.nodes p.splits s (split_in_range n budget old p leaf c h.valid h.most h.next h.at h.node_is) (omega (arith, many)) rules in
     all_keep n f budget old front back p.nodes p.splits s left right x.node y.node h.valid h.forest split
     (record {
@@ -251,16 +251,16 @@ nodes_at n f budget old front back p leaf c left right x y leaves found h k with
     let xs = (p.nodes ++ x.node ∷ []) ++ y.node ∷ [] in
     let long = many_ranges n f budget old p h.is in
     let at = λ (r : Range) (z : Node) (inside : IsInside n r) (node : IsRangeNode n f tables r z) (range_is : range_at rs k ≡ r) (node_is : node_at xs k ≡ z).
-      (let found : IsNodeAt n f tables (split_of p c.split left right x.node y.node leaves found) k = record {
-        range = subst (IsInside n) (sym range_is) inside;
-        node = subst (λ (r' : Range). IsRangeNode n f tables r' (node_at xs k)) (sym range_is) (subst (IsRangeNode n f tables r) (sym node_is) node);
-      } in found) in
+    (let found : IsNodeAt n f tables (split_of p c.split left right x.node y.node leaves found) k = record {
+      range = subst (IsInside n) (sym range_is) inside;
+      node = subst (λ (r' : Range). IsRangeNode n f tables r' (node_at xs k)) (sym range_is) (subst (IsRangeNode n f tables r) (sym node_is) node);
+    } in found) in
     ⊎_elim
     (λ low.
     let there = h.is.nodes k low in
     let searched = subst (AreSearched n) (append_assoc old front back) h.right_searched in
     let stays = subst (λ (ts : List Table). IsRangeNode n f ts (range_at p.ranges k) (node_at p.nodes k)) (sym (append_assoc old front back))
-      (node_stays n f old (front ++ back) (range_at p.ranges k) (node_at p.nodes k) searched there.node) in
+    (node_stays n f old (front ++ back) (range_at p.ranges k) (node_at p.nodes k) searched there.node) in
     at (range_at p.ranges k) (node_at p.nodes k) there.range stays (old_at p.ranges left right no_range k (omega (arith, low, long))) (old_at p.nodes x.node y.node no_node k low))
     (⊎_elim
     (λ is. at left x.node h.left_inside (node_stays n f (old ++ front) back left x.node h.right_searched h.left_node)
@@ -286,10 +286,10 @@ found_more n nodes x y old between new found one two =
     let relaxed = map (λ (z : Node). z.relaxed) nodes in
     let first = subst (Found n (relaxed ++ x.relaxed ∷ [])) (sym one.better_is) (found_more_law n relaxed x.relaxed old one.next found one.is_next) in
     let second = subst (Found n ((relaxed ++ x.relaxed ∷ []) ++ y.relaxed ∷ [])) (sym two.better_is)
-      (found_more_law n (relaxed ++ x.relaxed ∷ []) y.relaxed between two.next first two.is_next) in
+    (found_more_law n (relaxed ++ x.relaxed ∷ []) y.relaxed between two.next first two.is_next) in
     let same : map (λ (z : Node). z.relaxed) ((nodes ++ x ∷ []) ++ y ∷ []) ≡ (relaxed ++ x.relaxed ∷ []) ++ y.relaxed ∷ [] =
-      map-append (λ (z : Node). z.relaxed) (nodes ++ x ∷ []) (y ∷ [])
-      ∙ ap (λ os. os ++ y.relaxed ∷ []) (map-append (λ (z : Node). z.relaxed) nodes (x ∷ [])) in
+    map-append (λ (z : Node). z.relaxed) (nodes ++ x ∷ []) (y ∷ [])
+    ∙ ap (λ os. os ++ y.relaxed ∷ []) (map-append (λ (z : Node). z.relaxed) nodes (x ∷ [])) in
     subst (λ os. Found n os new) (sym same) second
 
 same_roots : (nodes : List Node) (x y : Node) → map (λ (z : Node). z.roots) ((nodes ++ x ∷ []) ++ y ∷ [])
@@ -327,13 +327,13 @@ goes_on_with n f budget old front back p leaf q c left right x y leaves between 
     let more : List Item = SplitItem c.split ∷ (node_items front x.node ++ node_items back y.node) in
     let grown_items = open_grown n f budget old front back p leaf c left right x y leaves found h in
     let both_cuts : map (cut_by n new.nodes) new.splits ≡ cuts ++ cut ∷ [] =
-      ap (λ (zs : List Node). map (cut_by n zs) new.splits) (append_assoc p.nodes (x.node ∷ []) (y.node ∷ []))
-      ∙ cuts_before n f budget old front back p leaf c left right x y h (x.node ∷ y.node ∷ []) in
+    ap (λ (zs : List Node). map (cut_by n zs) new.splits) (append_assoc p.nodes (x.node ∷ []) (y.node ∷ []))
+    ∙ cuts_before n f budget old front back p leaf c left right x y h (x.node ∷ y.node ∷ []) in
     let roots = roots_of g in
     let long : length roots ≡ length p.nodes = length-map p.nodes (λ (z : Node). z.roots) in
     let left_bound : x.bound ≡ bound_of tables x.node.roots = h.left_bound ∙ sym (bound_stays n f (old ++ front) back left x.node h.left_node) in
     let cut_leaves : AreCutLeaves n old tables roots x.node.roots y.node.roots cuts cut leaf
-        (leaf_of x.bound (length p.nodes)) (leaf_of y.bound (length p.nodes + 1)) = record {
+    (leaf_of x.bound (length p.nodes)) (leaf_of y.bound (length p.nodes + 1)) = record {
       cuts_are = h.next.cuts;
       cut = h.at.cut;
       many = omega (arith, long, many, many_cuts n budget old p);
@@ -344,7 +344,7 @@ goes_on_with n f budget old front back p leaf q c left right x y leaves between 
       right_is = ap (λ b. leaf_of b (length p.nodes + 1)) h.right_bound ∙ ap (λ m. leaf_of (bound_of tables y.node.roots) (m + 1)) (sym long);
     } in
     let leaves_are = leaves_more n old tables roots x.node.roots y.node.roots cuts cut leaf (leaf_of x.bound (length p.nodes)) (leaf_of y.bound (length p.nodes + 1))
-      p.leaves leaves cut_leaves h.is.leaves least.there replaced in
+    p.leaves leaves cut_leaves h.is.leaves least.there replaced in
     let cut_ranges : (p.ranges ++ left ∷ []) ++ right ∷ [] ≡ ranges_of n (cuts ++ cut ∷ []) = new_ranges n f budget old front back p leaf c left right x y h in
     record {
       whole = λ v. (grown_items v).0;

@@ -43,7 +43,13 @@ fn searched<L>(
             unreachable!()
         };
         let nodes = progress.nodes.len();
-        match ending_of(given.network, given.budget, nodes, leaf.bound, &progress.found) {
+        match ending_of(
+            given.network,
+            given.budget,
+            nodes,
+            leaf.bound,
+            &progress.found,
+        ) {
             Some(outcome) => {
                 return cert_of(alloc, given, pool, progress, outcome, leaf.bound);
             }
@@ -84,6 +90,8 @@ pub fn search<L>(
     ensures later { steps.old ≤ steps.new }
     ensures few { steps.new ≤ steps.old + budget * length network.now.stages }
 {
+    // The call tells that the network keeps its rules.
+    let _horizon = network.horizon();
     let given = Given {
         network,
         forest,

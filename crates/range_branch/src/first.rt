@@ -1,6 +1,7 @@
 // The first node of a search.
 ghost use Rattle.std.specs.Prelude.{◌≡◌, ◌+◌, ◌≤◌, ◌^◌, IfOk, OnOk, [], length};
 ghost use Rattle.range_branch.specs.Progress.{IsGiven, IsProgress};
+ghost use Rattle.range_branch.specs.First.{HasOneLeaf, IsFirst};
 
 use crate::progress::{Given, Progress};
 use incumbent_repair::best_repair;
@@ -10,8 +11,6 @@ use service_model::{List, NoMemory, Plan, Range};
 use std::alloc::Global;
 use step_ledger::Steps;
 use table_pool::Pool;
-
-ghost use Rattle.range_branch.specs.First.{HasOneLeaf, IsFirst};
 
 // The leaves of a search of one node.
 fn one_leaf(alloc: Global, bound: u64) -> Result<Leaves, NoMemory>

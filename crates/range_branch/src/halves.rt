@@ -80,7 +80,9 @@ pub fn made_halves<L>(
     ensures few { steps.new ≤ steps.old + length given.now.network.now.stages + length given.now.network.now.stages }
 {
     let Given {
-        network, forest, ..
+        network,
+        forest,
+        ..
     } = *given;
     let (left, right) = halves(alloc, network, range, cutting.split.supplier, cutting.last)?;
     let left_made = made_node(alloc, network, forest, &left, pool, steps)?;

@@ -9,3 +9,6 @@ mod progress;
 mod split;
 
 pub use branch::search;
+
+#[cfg(test)]
+mod tests;

@@ -34,12 +34,7 @@ fn find_more(
 }
 
 // The first leaf gives way to two others.
-fn replace_least(
-    leaves: &mut Leaves,
-    leaf: Leaf,
-    left: Leaf,
-    right: Leaf,
-) -> Result<(), NoMemory>
+fn replace_least(leaves: &mut Leaves, leaf: Leaf, left: Leaf, right: Leaf) -> Result<(), NoMemory>
     requires { IsLeastOf leaves.old leaf }
     ensures { OnOk result (AreReplaced leaves.old leaves.new leaf left right) }
 {

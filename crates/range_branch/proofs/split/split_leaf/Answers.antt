@@ -72,7 +72,7 @@ made_halves-requires-clause-holds g c =
     let cutting = c.in-Some.cutting in
     let next = next_leaf n f budget c.args.pool.now p leaf given.valid given.forest c.requires.progress c.requires.least c.requires.unended in
     let by = cutting_is n budget c.args.pool.now p leaf cutting next
-      (subst (λ (x : Node). CutBy n leaf.node x.relaxed (Some cutting)) (sym (c.get-node.ensures.whatever_else no_node)) c.in-Some.ensures) in
+    (subst (λ (x : Node). CutBy n leaf.node x.relaxed (Some cutting)) (sym (c.get-node.ensures.whatever_else no_node)) c.in-Some.ensures) in
     subst (λ (r : Range). HoldsTime r cutting.split.supplier cutting.last) (c.get-range.ensures.whatever_else no_range)
     (split_at n budget c.args.pool.now p leaf next.relaxed.plan cutting given.valid next next.relaxed.there by).holds
 
@@ -87,7 +87,7 @@ made_halves-requires-clause-next g c =
     let cutting = c.in-Some.cutting in
     let next = next_leaf n f budget c.args.pool.now p leaf given.valid given.forest c.requires.progress c.requires.least c.requires.unended in
     let by = cutting_is n budget c.args.pool.now p leaf cutting next
-      (subst (λ (x : Node). CutBy n leaf.node x.relaxed (Some cutting)) (sym (c.get-node.ensures.whatever_else no_node)) c.in-Some.ensures) in
+    (subst (λ (x : Node). CutBy n leaf.node x.relaxed (Some cutting)) (sym (c.get-node.ensures.whatever_else no_node)) c.in-Some.ensures) in
     subst (λ (r : Range). HoldsTime r cutting.split.supplier (cutting.last + 1)) (c.get-range.ensures.whatever_else no_range)
     (split_at n budget c.args.pool.now p leaf next.relaxed.plan cutting given.valid next next.relaxed.there by).next
 
@@ -106,10 +106,10 @@ with_halves-requires-clause-left g c =
     let cutting = c.in-Some.cutting in
     let next = next_leaf n f budget c.args.pool.now p leaf given.valid given.forest c.requires.progress c.requires.least c.requires.unended in
     let by = cutting_is n budget c.args.pool.now p leaf cutting next
-      (subst (λ (x : Node). CutBy n leaf.node x.relaxed (Some cutting)) (sym (c.get-node.ensures.whatever_else no_node)) c.in-Some.ensures) in
+    (subst (λ (x : Node). CutBy n leaf.node x.relaxed (Some cutting)) (sym (c.get-node.ensures.whatever_else no_node)) c.in-Some.ensures) in
     let at = split_at n budget c.args.pool.now p leaf next.relaxed.plan cutting given.valid next next.relaxed.there by in
     let halves = subst (λ (r : Range). AreHalves n f r cutting c.args.pool.now c.made_halves.new.pool c.args.steps.now c.made_halves.new.steps c.in_ok-halves.halves)
-      (sym (c.get-range.ensures.whatever_else no_range)) c.in_ok-halves.ensures.halves in
+    (sym (c.get-range.ensures.whatever_else no_range)) c.in_ok-halves.ensures.halves in
     (halves_repairable n f (range_at p.ranges leaf.node) cutting c.args.pool.now c.made_halves.new.pool c.args.steps.now c.made_halves.new.steps c.in_ok-halves.halves
     (c.requires.progress.nodes leaf.node next.within).range at.holds halves).0
 
@@ -124,10 +124,10 @@ with_halves-requires-clause-right g c =
     let cutting = c.in-Some.cutting in
     let next = next_leaf n f budget c.args.pool.now p leaf given.valid given.forest c.requires.progress c.requires.least c.requires.unended in
     let by = cutting_is n budget c.args.pool.now p leaf cutting next
-      (subst (λ (x : Node). CutBy n leaf.node x.relaxed (Some cutting)) (sym (c.get-node.ensures.whatever_else no_node)) c.in-Some.ensures) in
+    (subst (λ (x : Node). CutBy n leaf.node x.relaxed (Some cutting)) (sym (c.get-node.ensures.whatever_else no_node)) c.in-Some.ensures) in
     let at = split_at n budget c.args.pool.now p leaf next.relaxed.plan cutting given.valid next next.relaxed.there by in
     let halves = subst (λ (r : Range). AreHalves n f r cutting c.args.pool.now c.made_halves.new.pool c.args.steps.now c.made_halves.new.steps c.in_ok-halves.halves)
-      (sym (c.get-range.ensures.whatever_else no_range)) c.in_ok-halves.ensures.halves in
+    (sym (c.get-range.ensures.whatever_else no_range)) c.in_ok-halves.ensures.halves in
     (halves_repairable n f (range_at p.ranges leaf.node) cutting c.args.pool.now c.made_halves.new.pool c.args.steps.now c.made_halves.new.steps c.in_ok-halves.halves
     (c.requires.progress.nodes leaf.node next.within).range at.holds halves).1
 
@@ -142,9 +142,9 @@ returns-clause-progress g c =
     let cutting = c.in-Some.cutting in
     let next = next_leaf n f budget c.args.pool.now p leaf given.valid given.forest c.requires.progress c.requires.least c.requires.unended in
     let by = cutting_is n budget c.args.pool.now p leaf cutting next
-      (subst (λ (x : Node). CutBy n leaf.node x.relaxed (Some cutting)) (sym (c.get-node.ensures.whatever_else no_node)) c.in-Some.ensures) in
+    (subst (λ (x : Node). CutBy n leaf.node x.relaxed (Some cutting)) (sym (c.get-node.ensures.whatever_else no_node)) c.in-Some.ensures) in
     let at = split_at n budget c.args.pool.now p leaf next.relaxed.plan cutting given.valid next next.relaxed.there by in
     let halves = subst (λ (r : Range). AreHalves n f r cutting c.args.pool.now c.made_halves.new.pool c.args.steps.now c.made_halves.new.steps c.in_ok-halves.halves)
-      (sym (c.get-range.ensures.whatever_else no_range)) c.in_ok-halves.ensures.halves in
+    (sym (c.get-range.ensures.whatever_else no_range)) c.in_ok-halves.ensures.halves in
     stepped n f budget c.args.pool.now c.made_halves.new.pool c.args.steps.now c.made_halves.new.steps p c.in_ok-next.next leaf next.relaxed.plan cutting
     c.in_ok-halves.halves given.valid given.most given.forest c.requires.progress next at c.requires.least next.relaxed.there by halves c.in_ok-next.ensures
