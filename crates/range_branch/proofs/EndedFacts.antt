@@ -1,5 +1,5 @@
 -- The certificate of a search that ended.
-use Rattle.std.proofs.Common.{◌≡◌, ◌≢◌, ℕ, ◌+◌, ◌*◌, ◌<◌, ◌≤◌, List, [], ◌∷◌, ◌++◌, length, refl, sym, ap, ◌∙◌, subst, arith}
+use Rattle.std.proofs.Common.{◌≡◌, ◌≢◌, ℕ, ◌*◌, ◌<◌, List, [], ◌∷◌, length, refl, sym, ap, ◌∙◌, subst, arith}
 use Rattle.std.specs.Prelude.{Option, Some, None, IfSome, All}
 use Rattle.std.proofs.lemmas.Bool.{lt-leb}
 use Rattle.std.proofs.lemmas.List.{get_or_default}
@@ -9,7 +9,6 @@ use Rattle.service_model.specs.declared.range.Range.{Range}
 use Rattle.service_model.specs.declared.table.Table.{Table}
 use Rattle.service_model.specs.declared.cert.Outcome.{Outcome}
 use Rattle.service_model.specs.declared.cert.Outcome.TheVariants.{Optimal, Infeasible, Spent}
-use Rattle.service_model.specs.declared.cert.Node.{Node}
 use Rattle.service_model.specs.declared.cert.Split.{Split}
 use Rattle.service_model.specs.declared.cert.Verdict.{Verdict}
 use Rattle.service_model.specs.declared.cert.Cert.{Cert}
@@ -19,10 +18,9 @@ use Rattle.service_model.specs.Plans.{HasTimes, Meets, Feasible}
 use Rattle.service_model.specs.Faults.{IsNetwork}
 use Rattle.service_model.specs.Nodes.{bound_of}
 use Rattle.service_model.specs.CertRanges.{range_at}
-use Rattle.service_model.specs.Repairs.{Found}
 use Rattle.service_model.specs.Verdicts.{Closes, EndsWith, ending_plan, TrueAs, IsTrueOf}
 use Rattle.service_model.specs.Items.{items_of}
-use Rattle.service_model.specs.Held.{Held, none_held, held_after, no_node, node_at, relaxed_of, roots_of, cuts_of, range_of, bound_at}
+use Rattle.service_model.specs.Held.{Held, none_held, no_node, node_at, roots_of, cuts_of, range_of}
 use Rattle.service_model.specs.CertRules.{Keeps}
 use Rattle.service_model.specs.Certs.{AllKeep}
 use Rattle.tree_order.specs.declared.forest.Forest.{Forest}
@@ -40,8 +38,7 @@ use Rattle.range_splits.proofs.OpenFacts.{open_law}
 use Rattle.range_nodes.specs.Sizes.{IsShortNode}
 use Rattle.range_nodes.specs.Nodes.{IsRangeNode}
 use Rattle.range_nodes.proofs.PlanFacts.{relaxed_at, feasible_found, short_node}
-use Rattle.range_branch.specs.declared.progress.Progress.{Progress}
-use Rattle.range_branch.specs.Progress.{came, cert_with, IsProgress}
+use Rattle.range_branch.specs.Progress.{came, cert_with}
 use Rattle.range_branch.specs.Own.{IsOwn}
 use Rattle.range_branch.specs.Sizes.{IsShortCert}
 use Rattle.range_branch.specs.Solutions.{SolvesAs, Solves}

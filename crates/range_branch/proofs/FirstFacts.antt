@@ -1,6 +1,6 @@
 -- A search of one node.
-use Rattle.std.proofs.Common.{◌≡◌, ◌↔◌, ℕ, ◌+◌, ◌*◌, ◌<◌, ◌≤◌, zero, suc, List, [], ◌∷◌, ◌++◌, length, get_or, map, refl, sym, ap, ◌∙◌, subst, inl, inr, arith}
-use Rattle.std.specs.Prelude.{◌==◌, Option, Some, None, Contains, All}
+use Rattle.std.proofs.Common.{◌≡◌, ◌↔◌, ℕ, ◌<◌, ◌≤◌, zero, suc, List, [], ◌∷◌, length, get_or, map, refl, sym, ap, ◌∙◌, subst, arith}
+use Rattle.std.specs.Prelude.{◌==◌, Option, Some, None, Contains}
 use Rattle.std.proofs.lemmas.List.{get_or-map}
 use Rattle.service_model.specs.declared.cert_rules.TheConstants.{MAX_BUDGET, SHAPE, HEAD, AFTER_END, PLACE, NETWORK}
 use Rattle.service_model.specs.declared.plan.Plan.{Plan}
@@ -9,20 +9,19 @@ use Rattle.service_model.specs.declared.stage.Stage.{Stage}
 use Rattle.service_model.specs.declared.table.Table.{Table}
 use Rattle.service_model.specs.declared.cert.Node.{Node}
 use Rattle.service_model.specs.declared.cert.Verdict.{Verdict}
-use Rattle.service_model.specs.declared.cert.Item.{Item}
 use Rattle.service_model.specs.declared.cert.Item.TheVariants.{Head as HeadItem, Table as TableItem, Node as NodeItem}
-use Rattle.service_model.specs.Net.{Net, no_stage, stage_at}
+use Rattle.service_model.specs.Net.{Net, no_stage}
 use Rattle.service_model.specs.Faults.{IsNetwork}
 use Rattle.service_model.specs.Ranges.{whole_of, HasIntervals}
 use Rattle.service_model.specs.Nodes.{bound_of}
 use Rattle.service_model.specs.CertNumbers.{HeadInRange}
-use Rattle.service_model.specs.Repairs.{Repair, IsCandidate, Found, FoundOf}
-use Rattle.service_model.specs.Held.{Held, none_held, held_with, held_after, node_at, budget_of}
+use Rattle.service_model.specs.Repairs.{Repair, IsCandidate, FoundOf}
+use Rattle.service_model.specs.Held.{Held, none_held, held_with, held_after}
 use Rattle.service_model.specs.CertRules.{Keeps}
 use Rattle.service_model.specs.Certs.{AllKeep}
 use Rattle.tree_order.specs.declared.forest.Forest.{Forest}
 use Rattle.tree_order.specs.Forest.{IsForest}
-use Rattle.cert_laws.specs.Grown.{IsWhole, open_items, node_items}
+use Rattle.cert_laws.specs.Grown.{node_items}
 use Rattle.cert_laws.proofs.GrownFacts.{first_law}
 use Rattle.cert_laws.proofs.TablesKeptFacts.{either, keeps, tables_law}
 use Rattle.cert_laws.proofs.KeptFacts.{AllKeep-append, held_after-append}
@@ -34,7 +33,7 @@ use Rattle.range_nodes.specs.Nodes.{AreSearched, IsRangeNode, IsMade}
 use Rattle.range_nodes.proofs.TableFacts.{new_tables}
 use Rattle.range_nodes.proofs.RuleFacts.{node_rules}
 use Rattle.range_branch.specs.declared.progress.Progress.{Progress}
-use Rattle.range_branch.specs.Progress.{head_of, came, cert_with, IsInside, IsNodeAt, IsProgress}
+use Rattle.range_branch.specs.Progress.{head_of, cert_with, IsInside, IsNodeAt, IsProgress}
 use Rattle.range_branch.specs.First.{IsFirst}
 
 pub keeps_head : (n : Net) (budget : ℕ) → IsNetwork n → 1 ≤ budget → budget ≤ MAX_BUDGET → Keeps n none_held (HeadItem (head_of n budget))

@@ -1,20 +1,17 @@
 -- A split and its two nodes keep all rules behind what came.
-use Rattle.std.proofs.Common.{◌≡◌, ℕ, ◌+◌, ◌*◌, ◌<◌, ◌≤◌, List, [], ◌∷◌, ◌++◌, length, map, refl, sym, ap, ◌∙◌, subst, arith}
-use Rattle.std.specs.Prelude.{Some, None, All}
+use Rattle.std.proofs.Common.{◌≡◌, ℕ, ◌*◌, ◌<◌, ◌≤◌, List, [], ◌∷◌, ◌++◌, length, map, refl, sym, ap, ◌∙◌, subst}
+use Rattle.std.specs.Prelude.{Some, None}
 use Rattle.std.proofs.lemmas.Bool.{le-ltb, lt-leb}
-use Rattle.std.proofs.lemmas.List.{length_push, map-append, length-map}
-use Rattle.service_model.specs.declared.cert_rules.TheConstants.{MAX_BUDGET}
 use Rattle.service_model.specs.declared.range.Range.{Range}
 use Rattle.service_model.specs.declared.table.Table.{Table}
 use Rattle.service_model.specs.declared.cert.Node.{Node}
 use Rattle.service_model.specs.declared.cert.Split.{Split}
-use Rattle.service_model.specs.declared.cert.Item.{Item}
 use Rattle.service_model.specs.declared.cert.Item.TheVariants.{Table as TableItem, Node as NodeItem, Split as SplitItem}
 use Rattle.service_model.specs.Net.{Net}
 use Rattle.service_model.specs.Faults.{IsNetwork}
 use Rattle.service_model.specs.Ranges.{HasIntervals}
 use Rattle.service_model.specs.CertNumbers.{InRange}
-use Rattle.service_model.specs.Held.{Held, held_with, held_after, cuts_of, range_of, cut_by, budget_of}
+use Rattle.service_model.specs.Held.{Held, held_with, held_after, range_of}
 use Rattle.service_model.specs.CertRules.{Keeps, SplitRule}
 use Rattle.service_model.specs.Certs.{AllKeep}
 use Rattle.tree_order.specs.declared.forest.Forest.{Forest}

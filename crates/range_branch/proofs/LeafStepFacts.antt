@@ -1,5 +1,5 @@
 -- The leaf that is split, and the search behind it.
-use Rattle.std.proofs.Common.{◌≡◌, ℕ, ◌+◌, ◌*◌, ◌<◌, ◌≤◌, zero, suc, List, [], ◌∷◌, ◌++◌, length, refl, sym, ap, ◌∙◌, subst, arith}
+use Rattle.std.proofs.Common.{◌≡◌, ℕ, ◌+◌, ◌*◌, ◌≤◌, List, [], ◌∷◌, ◌++◌, length, refl, sym, ap, ◌∙◌, subst, arith}
 use Rattle.std.specs.Prelude.{Option, Some, None, IfSome, All}
 use Rattle.service_model.specs.declared.plan.Plan.{Plan}
 use Rattle.service_model.specs.declared.range.Range.{Range}
@@ -8,13 +8,13 @@ use Rattle.service_model.specs.declared.cert.Node.{Node}
 use Rattle.service_model.specs.declared.cert.Split.{Split}
 use Rattle.service_model.specs.declared.cert_rules.TheConstants.{MAX_BUDGET}
 use Rattle.service_model.specs.Net.{Net}
-use Rattle.service_model.specs.Plans.{HasTimes, Meets, Feasible, cost_of}
+use Rattle.service_model.specs.Plans.{HasTimes, Meets, Feasible}
 use Rattle.service_model.specs.Faults.{IsNetwork}
 use Rattle.service_model.specs.Nodes.{bound_of}
 use Rattle.service_model.specs.Ranges.{HasIntervals, HoldsTime}
 use Rattle.service_model.specs.CertRanges.{range_at}
 use Rattle.service_model.specs.Repairs.{IsRepairable, Found}
-use Rattle.service_model.specs.Held.{no_plan, node_at, relaxed_of, bound_at}
+use Rattle.service_model.specs.Held.{node_at, relaxed_of}
 use Rattle.tree_order.specs.declared.forest.Forest.{Forest}
 use Rattle.tree_order.specs.Forest.{IsForest}
 use Rattle.arc_relax.specs.Laws.{HasPlan}
@@ -27,11 +27,11 @@ use Rattle.range_nodes.proofs.PlanFacts.{feasible_found}
 use Rattle.range_branch.specs.declared.progress.Progress.{Progress}
 use Rattle.range_branch.specs.declared.halves.Cutting.{Cutting}
 use Rattle.range_branch.specs.declared.halves.Halves.{Halves}
-use Rattle.range_branch.specs.Progress.{came, IsInside, IsNodeAt, IsProgress, IsSplit}
+use Rattle.range_branch.specs.Progress.{came, IsInside, IsProgress, IsSplit}
 use Rattle.range_branch.specs.Steps.{IsCutting, CutBy, AreHalves}
 use Rattle.range_branch.proofs.RepairableFacts.{repairable}
 use Rattle.range_branch.proofs.InsideFacts.{ended_inside, started_inside}
-use Rattle.range_branch.proofs.SplittingFacts.{IsNextLeafOf, IsSplitAt, split_at}
+use Rattle.range_branch.proofs.SplittingFacts.{IsNextLeafOf, IsSplitAt}
 use Rattle.range_branch.proofs.StepFacts.{AreSplitHalves, split_of, goes_on_with, long_two}
 
 times_by : (n : Net) (r : Range) (parent : List ℕ) (bound : ℕ) (plan : Option Plan) → HasPlan n r parent bound plan → IfSome plan (HasTimes n)

@@ -1,11 +1,11 @@
 -- The leaves of a search in which one is split.
-use Rattle.std.proofs.Common.{◌≡◌, ◌≢◌, ◌⊎◌, ◌↔◌, ℕ, ◌+◌, ◌*◌, ◌<◌, ◌≤◌, List, [], ◌∷◌, ◌++◌, length, refl, sym, ap, ◌∙◌, subst, inl, inr, ⊎_elim, arith}
+use Rattle.std.proofs.Common.{◌≡◌, ◌≢◌, ℕ, ◌+◌, ◌*◌, ◌<◌, List, [], ◌∷◌, ◌++◌, length, sym, ap, ◌∙◌, inl, inr, ⊎_elim, arith}
 use Rattle.std.specs.Prelude.{Contains, slice_index_or}
 use Rattle.std.proofs.lemmas.List.{get_or_push, get_or_append_left, length_push}
 use Rattle.service_model.specs.declared.table.Table.{Table}
 use Rattle.service_model.specs.Net.{Net}
 use Rattle.service_model.specs.Nodes.{bound_of}
-use Rattle.service_model.specs.CertRanges.{Cut, IsCut, AreCuts, IsLeaf, node_bound}
+use Rattle.service_model.specs.CertRanges.{Cut, IsCut, AreCuts, node_bound}
 use Rattle.open_leaves.specs.declared.leaf.Leaf.{Leaf}
 use Rattle.range_splits.specs.Open.{AreLeaves}
 use Rattle.range_splits.proofs.LeafFacts.{leaves_law}

@@ -1,14 +1,13 @@
 -- A search that has not ended, and its next leaf.
-use Rattle.std.proofs.Common.{◌≡◌, ◌≢◌, ℕ, ◌+◌, ◌<◌, ◌≤◌, List, length, Option, Some, None, refl, sym, ap, ⊎_elim, arith}
-use Rattle.std.specs.Prelude.{IsSomeAnd}
-use Rattle.std.proofs.lemmas.Bool.{cases_lt, cases_eq}
+use Rattle.std.proofs.Common.{◌≡◌, ◌≢◌, ℕ, ◌+◌, ◌<◌, ◌≤◌, List, Option, Some, None, refl, ⊎_elim, arith}
+use Rattle.std.proofs.lemmas.Bool.{cases_lt}
 use Rattle.service_model.specs.declared.limits.TheConstants.{INF}
 use Rattle.service_model.specs.declared.plan.Plan.{Plan}
 use Rattle.service_model.specs.declared.cert.Outcome.TheVariants.{Optimal, Infeasible, Spent}
 use Rattle.service_model.specs.Net.{Net}
 use Rattle.service_model.specs.Plans.{cost_of}
 use Rattle.service_model.specs.Repairs.{IsFound, Found}
-use Rattle.service_model.specs.Verdicts.{Closes, EndsWith}
+use Rattle.service_model.specs.Verdicts.{Closes}
 use Rattle.service_model.specs.Held.{Held, relaxed_of, bound_at}
 use Rattle.service_model.specs.Earned.{IsOpen}
 use Rattle.range_splits.specs.Open.{IsEndingOf}

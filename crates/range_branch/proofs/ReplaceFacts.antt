@@ -1,7 +1,6 @@
 -- A leaf that gives way to two others.
-use Rattle.std.proofs.Common.{◌≡◌, ◌≢◌, ◌⊎◌, ◌↔◌, ℕ, ◌+◌, ◌<◌, ◌≤◌, zero, suc, List, [], ◌∷◌, length, refl, sym, ap, ◌∙◌, subst, inl, inr, ⊎_elim, arith}
+use Rattle.std.proofs.Common.{◌≡◌, ◌≢◌, ◌⊎◌, ◌↔◌, zero, suc, List, [], ◌∷◌, sym, ◌∙◌, subst, inl, inr, ⊎_elim, arith}
 use Rattle.std.specs.Prelude.{All, Contains, Option, Some, None, IfSome, IfNone}
-use Rattle.std.proofs.lemmas.List.Elements.{All-head, All-tail, All-get_or}
 use Rattle.open_leaves.specs.declared.leaf.Leaf.{Leaf}
 use Rattle.open_leaves.specs.Leaves.{IsBefore, IsWithout}
 use Rattle.range_splits.specs.Open.{IsLeastOf}

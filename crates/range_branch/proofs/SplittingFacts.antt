@@ -1,22 +1,19 @@
 -- The leaf that is split next: it is open, its relaxed plan breaks an arc, and its range can be cut.
-use Rattle.std.proofs.Common.{◌≡◌, ◌≢◌, ℕ, ◌+◌, ◌-◌, ◌*◌, ◌<◌, ◌≤◌, List, [], ◌∷◌, length, map, refl, sym, ap, ◌∙◌, subst, arith}
-use Rattle.std.specs.Prelude.{Option, Some, None, unwrap_or, All}
-use Rattle.std.proofs.lemmas.List.{length-map, get_or-map}
-use Rattle.service_model.specs.declared.limits.TheConstants.{INF}
+use Rattle.std.proofs.Common.{◌≡◌, ℕ, ◌+◌, ◌-◌, ◌*◌, ◌<◌, List, length, sym, ap, ◌∙◌, subst, arith}
+use Rattle.std.specs.Prelude.{Option, Some, None, unwrap_or}
+use Rattle.std.proofs.lemmas.List.{length-map}
 use Rattle.service_model.specs.declared.plan.Plan.{Plan}
 use Rattle.service_model.specs.declared.range.Range.{Range}
 use Rattle.service_model.specs.declared.table.Table.{Table}
-use Rattle.service_model.specs.declared.cert.Node.{Node}
 use Rattle.service_model.specs.declared.cert.Outcome.TheVariants.{Spent}
 use Rattle.service_model.specs.declared.cert.Verdict.{Verdict}
-use Rattle.service_model.specs.declared.cert.Split.{Split}
 use Rattle.service_model.specs.Net.{Net, arc_in}
 use Rattle.service_model.specs.Plans.{inbound_at}
 use Rattle.service_model.specs.Faults.{IsNetwork}
 use Rattle.service_model.specs.Tables.{transit_in}
 use Rattle.service_model.specs.Ranges.{HoldsTime}
-use Rattle.service_model.specs.CertRanges.{IsCut, AreCuts, range_at, node_bound}
-use Rattle.service_model.specs.Held.{Held, none_held, held_after, no_node, no_plan, node_at, relaxed_at, relaxed_of, roots_of, cuts_of, cut_by, range_of, bound_at}
+use Rattle.service_model.specs.CertRanges.{IsCut, AreCuts, range_at}
+use Rattle.service_model.specs.Held.{none_held, no_plan, node_at, relaxed_at, roots_of, cuts_of, cut_by, range_of, bound_at}
 use Rattle.service_model.specs.Earned.{IsNext, IsOpen, IsRelaxedAt, BreaksArc}
 use Rattle.service_model.proofs.ArcFacts.{transit_in-arc}
 use Rattle.tree_order.specs.declared.forest.Forest.{Forest}

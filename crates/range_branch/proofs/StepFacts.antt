@@ -1,6 +1,6 @@
 -- The search after a leaf was split.
 use Rattle.std.proofs.Common.{◌≡◌, ◌⊎◌, ℕ, ◌+◌, ◌*◌, ◌<◌, ◌≤◌, List, [], ◌∷◌, ◌++◌, length, map, refl, sym, ap, ◌∙◌, subst, inl, inr, ⊎_elim, arith}
-use Rattle.std.specs.Prelude.{Option, Some, None, All, slice_index_or}
+use Rattle.std.specs.Prelude.{Option, Some, All, slice_index_or}
 use Rattle.std.proofs.lemmas.Bool.{cases_lt, cases_eq}
 use Rattle.std.proofs.lemmas.List.{append_assoc, map-append, length-append, length_push, length-map, get_or-map, get_or_append_left, get_or_push}
 use Rattle.service_model.specs.declared.cert_rules.TheConstants.{MAX_BUDGET}
@@ -12,23 +12,22 @@ use Rattle.service_model.specs.declared.cert.Split.{Split}
 use Rattle.service_model.specs.declared.cert.Verdict.{Verdict}
 use Rattle.service_model.specs.declared.cert.Item.{Item}
 use Rattle.service_model.specs.declared.cert.Item.TheVariants.{Split as SplitItem}
-use Rattle.service_model.specs.Net.{Net, no_arc, arc_in}
-use Rattle.service_model.specs.Plans.{Meets}
+use Rattle.service_model.specs.Net.{Net, no_arc}
 use Rattle.service_model.specs.Faults.{IsNetwork}
 use Rattle.service_model.specs.Nodes.{bound_of}
-use Rattle.service_model.specs.Ranges.{whole_of, HasIntervals, ended, started}
-use Rattle.service_model.specs.CertRanges.{Cut, cut_at, no_range, range_at, with_halves, with_cuts, ranges_of, node_range, node_bound}
-use Rattle.service_model.specs.Repairs.{Found, FoundOf, better}
+use Rattle.service_model.specs.Ranges.{whole_of, ended, started}
+use Rattle.service_model.specs.CertRanges.{Cut, no_range, range_at, with_halves, with_cuts, ranges_of, node_range}
+use Rattle.service_model.specs.Repairs.{Found}
 use Rattle.service_model.specs.CertNumbers.{InRange}
 use Rattle.service_model.proofs.NetworkFacts.{IsNetwork-HasEnds}
-use Rattle.service_model.specs.Held.{Held, none_held, held_after, no_node, node_at, cut_by, cuts_of, relaxed_of, roots_of, range_of}
+use Rattle.service_model.specs.Held.{Held, none_held, held_after, no_node, node_at, cut_by, cuts_of, roots_of, range_of}
 use Rattle.service_model.specs.Certs.{AllKeep}
 use Rattle.service_model.specs.Earned.{IsNext, IsOpen, IsRelaxedAt}
 use Rattle.tree_order.specs.declared.forest.Forest.{Forest}
 use Rattle.tree_order.specs.Forest.{IsForest}
 use Rattle.tree_order.proofs.ForestLaws.{all_kept}
 use Rattle.arc_relax.specs.Laws.{HasPlan}
-use Rattle.cert_laws.specs.Grown.{IsWhole, open_items, node_items, grown}
+use Rattle.cert_laws.specs.Grown.{IsWhole, open_items, node_items}
 use Rattle.cert_laws.proofs.KeptFacts.{AllKeep-append, held_after-append}
 use Rattle.cert_laws.proofs.GrownFacts.{grown_law}
 use Rattle.cert_laws.proofs.CutFacts.{left_node, right_node, length-ranges_of}
@@ -46,7 +45,7 @@ use Rattle.range_branch.specs.declared.halves.Cutting.{Cutting}
 use Rattle.range_branch.specs.Progress.{came, cert_with, IsInside, IsNodeAt, IsProgress, IsFoundMore, AreReplaced, leaf_of}
 use Rattle.range_branch.specs.Steps.{IsCutting}
 use Rattle.range_branch.proofs.CutsFacts.{cuts_stay, cut_stays}
-use Rattle.range_branch.proofs.ItemsFacts.{showing, IsNextNode, all_keep, split_keeps}
+use Rattle.range_branch.proofs.ItemsFacts.{showing, all_keep, split_keeps}
 use Rattle.range_branch.proofs.LeavesFacts.{AreCutLeaves, leaves_more}
 use Rattle.range_branch.proofs.SplittingFacts.{IsNextLeafOf, IsSplitAt, many_cuts, many_nodes, sound_so_far}
 

@@ -1,5 +1,5 @@
 -- The certificate of a search.
-use Rattle.std.specs.Prelude.{◌≡◌, ℕ, ◌<◌, [], length, None, Some}
+use Rattle.std.specs.Prelude.{◌≡◌, ℕ, ◌<◌, length, None, Some}
 use Rattle.service_model.specs.declared.cert.Cert.{Cert}
 use Rattle.service_model.specs.Net.{Net}
 use Rattle.service_model.specs.Items.{items_of}

@@ -1,4 +1,4 @@
-use Rattle.std.proofs.Common.{◌≡◌, ◌+◌, ◌*◌, ◌≤◌, List, length, subst, arith}
+use Rattle.std.proofs.Common.{subst, arith}
 use Rattle.std.specs.Prelude.{None}
 use Rattle.range_splits.specs.Open.{IsEndingOf}
 use Rattle.range_branch.proofs.SearchFacts.{some_leaf, few_tables, few_more}

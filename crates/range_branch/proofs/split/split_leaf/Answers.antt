@@ -1,16 +1,12 @@
-use Rattle.std.proofs.Common.{◌≡◌, ◌+◌, ◌*◌, ◌<◌, ◌≤◌, List, length, sym, ap, subst, arith}
-use Rattle.std.specs.Prelude.{Option, Some, None, IfSome}
-use Rattle.service_model.specs.declared.plan.Plan.{Plan}
+use Rattle.std.proofs.Common.{◌+◌, sym, subst, arith}
+use Rattle.std.specs.Prelude.{Some, None, IfSome}
 use Rattle.service_model.specs.declared.range.Range.{Range}
 use Rattle.service_model.specs.declared.cert.Node.{Node}
 use Rattle.service_model.specs.Plans.{HasTimes}
 use Rattle.service_model.specs.Ranges.{HasIntervals, HoldsTime}
 use Rattle.service_model.specs.CertRanges.{no_range, range_at}
 use Rattle.service_model.specs.Held.{no_node, node_at}
-use Rattle.range_branch.specs.declared.halves.Cutting.{Cutting}
 use Rattle.range_branch.specs.Steps.{CutBy, AreHalves}
-use Rattle.range_branch.proofs.RepairableFacts.{repairable}
-use Rattle.range_branch.proofs.InsideFacts.{ended_inside, started_inside}
 use Rattle.range_branch.proofs.SplittingFacts.{next_leaf, split_at}
 use Rattle.range_branch.proofs.StepFacts.{many_ranges}
 use Rattle.range_branch.proofs.LeafStepFacts.{not_met, cutting_is, relaxed_times, found_is_feasible, stepped, halves_repairable}

@@ -1,9 +1,4 @@
-use Rattle.range_branch.proofs.LeafStepFacts.{not_met, cutting_is, relaxed_times, found_is_feasible}
-use Rattle.range_branch.proofs.InsideFacts.{ended_inside, started_inside}
-use Rattle.range_branch.proofs.SplittingFacts.{next_leaf, split_at}
-use Rattle.range_branch.proofs.LeavesFacts.{leaves_more}
-use Rattle.range_branch.proofs.ItemsFacts.{all_keep}
-use Rattle.std.proofs.Common.{◌≡◌, ℕ, ◌+◌, List, [], ◌∷◌, ◌++◌, length, ap, ◌∙◌, subst}
+use Rattle.std.proofs.Common.{ℕ, ◌+◌, List, [], ◌∷◌, ◌++◌, ap, ◌∙◌, subst}
 use Rattle.service_model.specs.declared.range.Range.{Range}
 use Rattle.service_model.specs.declared.cert.Node.{Node}
 use Rattle.range_branch.specs.Progress.{AreReplaced, leaf_of}
