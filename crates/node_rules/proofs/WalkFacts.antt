@@ -12,8 +12,7 @@ use Rattle.service_model.specs.Tables.{table_at, Sound}
 use Rattle.service_model.specs.Nodes.{below, below_roots, IsOnce}
 use Rattle.gsm_laws.proofs.BelowFacts.{below_law, sound_everywhere}
 use Rattle.node_rules.specs.Marks.{IsMarked}
-use Rattle.node_rules.specs.Walks.{IsWalk}
-use Rattle.node_rules.proofs.MarkFacts.{marked_there, none_marked}
+use Rattle.node_rules.proofs.MarkFacts.{none_marked}
 
 abbrev stages_of : List Table → List ℕ → List ℕ
 stages_of tables ks = map (λ k. (table_at tables k).stage) ks

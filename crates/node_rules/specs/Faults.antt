@@ -1,6 +1,6 @@
--- The rules on a node by what they look at.
-use Rattle.std.specs.Prelude.{◌≡◌, ℕ, ◌<◌, ◌==◌, List, length, All, Option, Some, None, IfSome, MatchBool, ⊤, ◌⊎◌}
-use Rattle.service_model.specs.declared.cert_rules.TheConstants.{BUDGET, ROOT, FITS, STAGE_TWICE, RELAXED}
+-- The rules on the tables at and below the roots of a node.
+use Rattle.std.specs.Prelude.{◌≡◌, ℕ, List, All, Option, Some, None, ◌⊎◌}
+use Rattle.service_model.specs.declared.cert_rules.TheConstants.{FITS, STAGE_TWICE}
 use Rattle.service_model.specs.declared.range.Range.{Range}
 use Rattle.service_model.specs.declared.table.Table.{Table}
 use Rattle.service_model.specs.Net.{Net}

@@ -1,8 +1,9 @@
 // Nodes over two stages and an arc from the first to the second.
 ghost use Rattle.std.specs.Prelude.{◌≡◌, ℕ, ◌<◌, All, IsTrue, length};
-ghost use Rattle.service_model.specs.Tables.{table_at, IsChild, IsShaped, IsSized, Local, Sound, Supplies};
+ghost use Rattle.service_model.specs.Tables.{table_at, IsChild, IsShaped, IsSized, Sound, Supplies};
 ghost use Rattle.service_model.specs.CertNumbers.{TableInRange};
 
+use crate::roots::are_roots;
 use crate::tables::table_in;
 use crate::{node_bound, node_fault};
 use service_model::cert_rules::{BUDGET, FITS, MAX_NUMBER, RELAXED, ROOT, STAGE_TWICE};
@@ -106,13 +107,19 @@ fn may_hang(network: &Network, child: &Table, stage: u32) -> bool
     }
 }
 
-fn are_children(network: &Network, tables: &[Table], number: usize, table: &Table) -> bool
+fn are_children(
+    network: &Network,
+    tables: &[Table],
+    number: usize,
+    children: &[u32],
+    stage: u32,
+) -> bool
     requires { number < length tables.now }
-    ensures { IsTrue result → All (λ c. (c < number) × IsChild (table_at tables.now c).kind network.now.arcs (table_at tables.now c).stage table.now.stage) table.now.children }
+    ensures { IsTrue result → All (λ c. (c < number) × IsChild (table_at tables.now c).kind network.now.arcs (table_at tables.now c).stage stage) children.now }
 {
-    'children: for child in table.children.as_slice() {
+    'children: for child in children {
         let at = *child as usize;
-        if at >= number || !may_hang(network, table_in(tables, at), table.stage) {
+        if at >= number || !may_hang(network, table_in(tables, at), stage) {
             return false;
         }
     }
@@ -124,7 +131,8 @@ fn is_shaped(network: &Network, tables: &[Table], number: usize) -> bool
     ensures { IsTrue result → IsShaped network.now tables.now number (table_at tables.now number) }
 {
     let table = table_in(tables, number);
-    is_sized(network, table) && are_children(network, tables, number, table)
+    let children = table.children.as_slice();
+    is_sized(network, table) && are_children(network, tables, number, children, table.stage)
 }
 
 fn are_shaped(network: &Network, tables: &[Table]) -> bool
@@ -138,16 +146,15 @@ fn are_shaped(network: &Network, tables: &[Table]) -> bool
     true
 }
 
-// Values of 0 are at most any sum.
-fn are_free(network: &Network, tables: &[Table]) -> bool
-    ensures { IsTrue result → ((k : ℕ) → k < length tables.now → Local network.now tables.now (table_at tables.now k)) }
+fn are_free(tables: &[Table]) -> bool
+    ensures { IsTrue result → ((k : ℕ) → k < length tables.now → All (λ x. x ≡ 0) (table_at tables.now k).values) }
 {
     'tables: for number in 0..tables.len() {
         if !is_free(table_in(tables, number)) {
             return false;
         }
     }
-    network.horizon() <= MAX_TIME
+    true
 }
 
 fn is_free(table: &Table) -> bool
@@ -156,10 +163,11 @@ fn is_free(table: &Table) -> bool
     table.values.as_slice().iter().all(|value| *value == 0)
 }
 
+// Values of 0 are at most any sum.
 fn are_sound(network: &Network, tables: &[Table]) -> bool
     ensures { IsTrue result → Sound network.now tables.now }
 {
-    are_shaped(network, tables) && are_free(network, tables)
+    are_shaped(network, tables) && are_free(tables)
 }
 
 fn is_in_range(table: &Table) -> bool
@@ -180,10 +188,61 @@ fn is_in_range(table: &Table) -> bool
 fn are_in_range(tables: &[Table]) -> bool
     ensures { IsTrue result → All TableInRange tables.now }
 {
-    'tables: for number in 0..tables.len() {
-        if !is_in_range(table_in(tables, number)) {
+    'tables: for table in tables {
+        if !is_in_range(table) {
             return false;
         }
     }
     true
+}
+
+// The greatest outbound time of the first table, how many nodes came, the roots, the outbound times of the relaxed
+// plan, and the first rule that fails.
+type Case = (usize, usize, &'static [u32], &'static [u16], Option<u8>);
+
+// The rules behind the first that fails fail too, where they can.
+const CASES: [Case; 6] = [
+    (2, 2, &[1], &[0, 0], None),
+    (1, 3, &[0], &[0], Some(BUDGET)),
+    (1, 2, &[0], &[0], Some(ROOT)),
+    (1, 2, &[1, 1], &[0], Some(FITS)),
+    (2, 2, &[1, 1], &[0], Some(STAGE_TWICE)),
+    (2, 2, &[1], &[0], Some(RELAXED)),
+];
+
+#[test]
+fn the_first_rule_that_fails_is_told(rt: HostRuntime) -> Result<(), Fail> {
+    let alloc = rt.alloc();
+    let network = network(alloc)?;
+    let range = network.whole(alloc)?;
+    for (most, nodes, roots, outbound, rule) in CASES {
+        let below: &[u64] = if most == 2 { &[0, 0, 0] } else { &[0, 0] };
+        let tables = tables(alloc, below, 0)?;
+        let node = node(alloc, roots, outbound)?;
+        assert!(rt; are_sound(&network, &tables));
+        let fault = node_fault(alloc, &network, &range, 3, nodes, &tables, &node)?;
+        assert_eq!(rt; fault, rule, "nodes {nodes}, most {most}");
+    }
+    Ok(())
+}
+
+// The value of the customer's table, the roots, and their bound.
+const BOUNDS: [(u64, &[u32], u64); 4] = [
+    (6, &[], 0),
+    (6, &[1], 6),
+    (6, &[1, 1], 12),
+    (INF, &[1, 1], INF),
+];
+
+#[test]
+fn a_bound_is_the_sum_of_the_roots_values(rt: HostRuntime) -> Result<(), Fail> {
+    let network = network(rt.alloc())?;
+    for (value, roots, bound) in BOUNDS {
+        let tables = tables(rt.alloc(), &[3, 0, 0], value)?;
+        assert!(rt;
+            are_shaped(&network, &tables) && are_in_range(&tables) && are_roots(&tables, roots)
+        );
+        assert_eq!(rt; node_bound(&tables, roots), bound);
+    }
+    Ok(())
 }

@@ -1,7 +1,6 @@
-use Rattle.std.proofs.Common.{length, ◌≤◌, ℕ, refl, subst, take_all, rules}
+use Rattle.std.proofs.Common.{refl, subst, take_all}
 use Rattle.std.specs.Prelude.{All}
 use Rattle.std.proofs.lemmas.List.Elements.{All-more}
-use Rattle.service_model.specs.declared.table.Table.{Table}
 use Rattle.service_model.specs.Tables.{table_at}
 use Rattle.service_model.specs.Nodes.{Fits}
 use Rattle.node_rules.proofs.fits.all_fit.Goals as goal
