@@ -1,8 +1,13 @@
 -- A task that is done, or a refusal, is the answer.
-use Rattle.std.proofs.Common.{◌≡◌, ◌≤◌, ℕ, List, [], ◌∷◌, Option, Some, None, Result, Ok, Err, refl, sym, subst, ap, ◌∙◌, arith}
+use Rattle.std.proofs.Common.{◌≡◌, ◌≤◌, ℕ, Bool, true, false, List, [], ◌∷◌, Option, Some, None, Result, Ok, Err, refl, sym, subst, ap, ◌∙◌, arith}
 use Rattle.std.specs.Option.{IfSome}
 use Rattle.std.specs.Result.{MatchResult, IsOk, IsErr}
+use Rattle.std.proofs.lemmas.Bool.{false≢true}
 use Rattle.gsm_outside.specs.Held.{Held}
+use Rattle.service_model.specs.declared.cert.Outcome.{Outcome}
+use Rattle.service_model.specs.declared.cert.Outcome.TheVariants as outcome
+use Rattle.tree_order.specs.declared.forest.Forest.{Forest}
+use Rattle.network_check.specs.declared.checked.Checked.{Checked}
 use Rattle.planner_top.specs.declared.filled.TheConstants.{MOST_FILLED}
 use Rattle.planner_top.specs.declared.command.Command.{Command}
 use Rattle.planner_top.specs.declared.command.Command.TheVariants as command
@@ -16,22 +21,41 @@ use Rattle.planner_top.specs.declared.answer.Ending.TheVariants as ending
 use Rattle.planner_top.specs.Asked.{Asked, asked_of}
 use Rattle.planner_top.specs.Texts.{stop_row}
 use Rattle.planner_top.specs.Problems.{IsTaskOf, TellsWords}
-use Rattle.planner_top.specs.Answers.{IsProblem, IsRefusal, IsDone, MayEnd, ending_of, IsAnswer}
+use Rattle.planner_top.specs.Answers.{IsProblem, IsRefusal, IsSolution, IsDone, MayEnd, ending_by, ending_of, IsAnswer}
+
+-- how a network's solution may end
+abbrev is_solved : Ending → Bool
+is_solved ending.Done = true
+is_solved ending.Infeasible = true
+is_solved ending.Spent = true
+is_solved _ = false
+
+all_solved : (o : Outcome) → is_solved (ending_by o) ≡ true
+all_solved outcome.Optimal = refl
+all_solved outcome.Infeasible = refl
+all_solved outcome.Spent = refl
+
+-- no solution ends otherwise
+not_solved : (e : Ending) (rows : List (List (List ℕ))) (filled : ℕ) (cert : Option (List ℕ)) (c : Checked) (f : Forest) (budget : ℕ) → IsSolution e rows filled cert c f budget → is_solved e ≡ false → ⊥
+not_solved e rows filled cert c f budget is none =
+    (let one : is_solved e ≡ true = ap is_solved is.ending_is ∙ all_solved is.search.verdict.outcome in false≢true (sym none ∙ one))
 
 not_words : (t : Task) (rows : List (List (List ℕ))) (filled : ℕ) (cert : Option (List ℕ)) → IsDone ending.Words rows filled cert t → ⊥
-not_words (task.Solve c f) rows filled cert is = is
+not_words (task.Solve c f budget) rows filled cert is = not_solved ending.Words rows filled cert c f budget is refl
 not_words (task.Audit c plan) rows filled cert is = is.0
 not_words (task.Check c bytes) rows filled cert is = is.0
 
 done_may_end : (c : Command) (t : Task) (e : Ending) (rows : List (List (List ℕ))) (filled : ℕ) (cert : Option (List ℕ)) → IsTaskOf c t → IsDone e rows filled cert t → MayEnd c e
-done_may_end command.Solve (task.Solve c f) ending.NotFeasible rows filled cert own is = absurd is
-done_may_end command.Solve (task.Solve c f) ending.NotAccepted rows filled cert own is = absurd is
-done_may_end command.Solve (task.Solve c f) ending.Done rows filled cert own is = tt
-done_may_end command.Solve (task.Solve c f) ending.Infeasible rows filled cert own is = tt
-done_may_end command.Solve (task.Solve c f) ending.Words rows filled cert own is = absurd is
-done_may_end command.Solve (task.Solve c f) ending.Refused rows filled cert own is = absurd is
-done_may_end command.Solve (task.Solve c f) ending.TooLong rows filled cert own is = absurd is
+done_may_end command.Solve (task.Solve c f b) ending.NotFeasible rows filled cert own is = absurd (not_solved ending.NotFeasible rows filled cert c f b is refl)
+done_may_end command.Solve (task.Solve c f b) ending.NotAccepted rows filled cert own is = absurd (not_solved ending.NotAccepted rows filled cert c f b is refl)
+done_may_end command.Solve (task.Solve c f b) ending.Done rows filled cert own is = tt
+done_may_end command.Solve (task.Solve c f b) ending.Infeasible rows filled cert own is = tt
+done_may_end command.Solve (task.Solve c f b) ending.Spent rows filled cert own is = tt
+done_may_end command.Solve (task.Solve c f b) ending.Words rows filled cert own is = tt
+done_may_end command.Solve (task.Solve c f b) ending.Refused rows filled cert own is = tt
+done_may_end command.Solve (task.Solve c f b) ending.TooLong rows filled cert own is = tt
 done_may_end command.Audit (task.Audit c plan) ending.Infeasible rows filled cert own is = absurd is.0
+done_may_end command.Audit (task.Audit c plan) ending.Spent rows filled cert own is = absurd is.0
 done_may_end command.Audit (task.Audit c plan) ending.NotAccepted rows filled cert own is = absurd is.0
 done_may_end command.Audit (task.Audit c plan) ending.Done rows filled cert own is = tt
 done_may_end command.Audit (task.Audit c plan) ending.NotFeasible rows filled cert own is = tt
@@ -39,6 +63,7 @@ done_may_end command.Audit (task.Audit c plan) ending.Words rows filled cert own
 done_may_end command.Audit (task.Audit c plan) ending.Refused rows filled cert own is = absurd is.0
 done_may_end command.Audit (task.Audit c plan) ending.TooLong rows filled cert own is = absurd is.0
 done_may_end command.Check (task.Check c bytes) ending.Infeasible rows filled cert own is = absurd is.0
+done_may_end command.Check (task.Check c bytes) ending.Spent rows filled cert own is = absurd is.0
 done_may_end command.Check (task.Check c bytes) ending.NotFeasible rows filled cert own is = absurd is.0
 done_may_end command.Check (task.Check c bytes) ending.Done rows filled cert own is = tt
 done_may_end command.Check (task.Check c bytes) ending.NotAccepted rows filled cert own is = tt
@@ -47,9 +72,9 @@ done_may_end command.Check (task.Check c bytes) ending.Refused rows filled cert 
 done_may_end command.Check (task.Check c bytes) ending.TooLong rows filled cert own is = absurd is.0
 done_may_end command.Solve (task.Audit c plan) e rows filled cert own is = absurd own
 done_may_end command.Solve (task.Check c bytes) e rows filled cert own is = absurd own
-done_may_end command.Audit (task.Solve c f) e rows filled cert own is = absurd own
+done_may_end command.Audit (task.Solve c f b) e rows filled cert own is = absurd own
 done_may_end command.Audit (task.Check c bytes) e rows filled cert own is = absurd own
-done_may_end command.Check (task.Solve c f) e rows filled cert own is = absurd own
+done_may_end command.Check (task.Solve c f b) e rows filled cert own is = absurd own
 done_may_end command.Check (task.Audit c plan) e rows filled cert own is = absurd own
 
 one_asked : (words : List (List ℕ)) (q r : Asked) → asked_of words ≡ Ok q → asked_of words ≡ Ok r → q ≡ r

@@ -15,6 +15,7 @@ use Rattle.planner_top.proofs.ExactFacts.{told_exactly}
 abbrev ending_in : Status → Option Ending
 ending_in status.Done = Some ending.Done
 ending_in status.Infeasible = Some ending.Infeasible
+ending_in status.Spent = Some ending.Spent
 ending_in status.Words = Some ending.Words
 ending_in status.Refused = Some ending.Refused
 ending_in status.TooLong = Some ending.TooLong
@@ -25,6 +26,7 @@ ending_in _ = None
 ending_told : (e : Ending) → ending_in (status_of e) ≡ Some e
 ending_told ending.Done = refl
 ending_told ending.Infeasible = refl
+ending_told ending.Spent = refl
 ending_told ending.Words = refl
 ending_told ending.Refused = refl
 ending_told ending.TooLong = refl
@@ -65,7 +67,6 @@ answered_headline r e kept same answered = record {
   writes = kept.writes;
   later = answered_later r e answered;
   complete = λ sure. (e, same);
-  never = λ also. absurd (other_ending status.Spent e refl (sym same ∙ also));
   answer = λ other also. subst (λ (x : Ending). Answered r x) (one_ending other e (sym also ∙ same)) answered;
   exact = λ other m also told.
       subst (λ (x : Ending). Exactly r.words m x) (one_ending other e (sym also ∙ same)) (told_exactly r.words r.held m e answered.3.0 answered.3.1 answered.3.2 told answered.3.4);
@@ -82,6 +83,7 @@ unsure_write r sure (inr unwritten) = sure.writes unwritten.rose
 headline_by : (r : Run) (s : Status) → IsKept r → r.status ≡ s → StatusCase r s → Headline r
 headline_by r status.Done kept same case = answered_headline r ending.Done kept same case
 headline_by r status.Infeasible kept same case = answered_headline r ending.Infeasible kept same case
+headline_by r status.Spent kept same case = answered_headline r ending.Spent kept same case
 headline_by r status.Words kept same case = answered_headline r ending.Words kept same case
 headline_by r status.Refused kept same case = answered_headline r ending.Refused kept same case
 headline_by r status.TooLong kept same case = answered_headline r ending.TooLong kept same case
@@ -94,7 +96,6 @@ headline_by r status.ReadFault kept same case = record {
       let unsolved = case.1.1.1 in
       record { reads = case.0; writes = omega (arith, unsolved.writes); faults = omega (arith, case.1.0); ticks = omega (arith, unsolved.ticks); few = omega (arith, unsolved.ticks) });
   complete = λ sure. absurd (sure.reads case.1.1.1.rose);
-  never = λ also. cc;
   answer = λ e also. absurd (other_ending status.ReadFault e refl (sym also ∙ same));
   exact = λ e m also told. absurd (other_ending status.ReadFault e refl (sym also ∙ same));
   read_fault = λ also. case.1;
@@ -106,7 +107,6 @@ headline_by r status.WriteFault kept same case = record {
   writes = kept.writes;
   later = case.0;
   complete = λ sure. absurd (unsure_write r sure case.1);
-  never = λ also. cc;
   answer = λ e also. absurd (other_ending status.WriteFault e refl (sym also ∙ same));
   exact = λ e m also told. absurd (other_ending status.WriteFault e refl (sym also ∙ same));
   read_fault = λ also. cc;
@@ -118,14 +118,12 @@ headline_by r status.NoMemory kept same case = record {
   writes = kept.writes;
   later = case.0;
   complete = λ sure. absurd (sure.memory same);
-  never = λ also. cc;
   answer = λ e also. absurd (other_ending status.NoMemory e refl (sym also ∙ same));
   exact = λ e m also told. absurd (other_ending status.NoMemory e refl (sym also ∙ same));
   read_fault = λ also. cc;
   write_fault = λ also. cc;
   no_memory = λ also. case.1;
 }
-headline_by r status.Spent kept same case = absurd case
 
 pub headline_from : (r : Run) → KeepsOthers (cert_name r.words) r.held r.held_after → (cert_name r.words ≡ None → r.writes_after ≡ r.writes) → StatusCase r r.status → Headline r
 headline_from r shelf writes case = headline_by r r.status (record { shelf = shelf; writes = writes }) refl case

@@ -1,8 +1,11 @@
 pub mod AnswerFacts
 pub mod BreakFacts
+pub mod BudgetFacts
 pub mod CaseFacts
 pub mod ExactFacts
+pub mod FullFacts
 pub mod HeadlineFacts
+pub mod LastFacts
 pub mod PutFacts
 pub mod SolveFacts
 pub mod StatusFacts

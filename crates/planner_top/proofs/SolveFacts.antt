@@ -1,40 +1,60 @@
--- What a verdict that solves a network says of it.
-use Rattle.std.proofs.Common.{◌≡◌, ℕ, Option, Some, None, refl, ap, subst, ◌∙◌}
-use Rattle.service_model.specs.declared.limits.TheConstants.{INF}
+-- What a search's certificate says of the answer.
+use Rattle.std.proofs.Common.{◌≡◌, ◌<◌, ℕ, ◌+◌, List, [], length, Option, Some, None, Result, Ok, Err, refl, sym, ap, subst, ◌∙◌}
+use Rattle.std.specs.Prelude.{IfSome, IfOk}
 use Rattle.service_model.specs.declared.plan.Plan.{Plan}
+use Rattle.service_model.specs.declared.cert.Cert.{Cert}
 use Rattle.service_model.specs.declared.cert.Outcome.{Outcome}
-use Rattle.service_model.specs.declared.cert.Outcome.TheVariants.{Optimal, Infeasible, Spent}
+use Rattle.service_model.specs.declared.cert.Outcome.TheVariants as outcome
 use Rattle.service_model.specs.declared.cert.Verdict.{Verdict}
 use Rattle.service_model.specs.Net.{Net}
-use Rattle.service_model.specs.Plans.{Least, Empty, cost_of}
-use Rattle.range_branch.specs.Solutions.{SolvesAs, Solves}
-use Rattle.planner_top.specs.Certificates.{optimal_with, infeasible}
+use Rattle.service_model.specs.Plans.{Feasible}
+use Rattle.service_model.specs.Verdicts.{TrueAs, IsTrueOf}
+use Rattle.tree_order.specs.declared.forest.Forest.{Forest}
+use Rattle.range_branch.specs.Own.{IsOwn}
+use Rattle.range_branch.specs.Solutions.{Solves}
+use Rattle.network_check.specs.declared.checked.Checked.{Checked}
+use Rattle.cert_check.specs.Bytes.{IsAcceptedBytes}
+use Rattle.planner_top.specs.Texts.{solution_rows}
+use Rattle.planner_top.specs.Certificates.{cert_bytes, bytes_in, IsShown}
+use Rattle.planner_top.specs.Answers.{IsSolution, ending_by}
+use Rattle.planner_top.specs.declared.answer.Answer.{Answer}
 
-abbrev verdict_with : Outcome → ℕ → Option Plan → Verdict
-verdict_with outcome bound plan = record { outcome = outcome; bound = bound; plan = plan }
+feasible_as : (o : Outcome) (n : Net) (bound : ℕ) (plan : Option Plan) → TrueAs o n bound plan → IfSome plan (Feasible n)
+feasible_as outcome.Optimal n bound None is = absurd is
+feasible_as outcome.Optimal n bound (Some p) is = is.0.feasible
+feasible_as outcome.Infeasible n bound None is = tt
+feasible_as outcome.Infeasible n bound (Some p) is = (let none = is.1 in cc)
+feasible_as outcome.Spent n bound None is = tt
+feasible_as outcome.Spent n bound (Some p) is = is.1 p refl
 
-same_verdict : (o o' : Outcome) (b b' : ℕ) (p p' : Option Plan) → o ≡ o' → b ≡ b' → p ≡ p' → verdict_with o b p ≡ verdict_with o' b' p'
-same_verdict o o' b b' p p' outcome bound plan =
-    ap (λ (x : Outcome). verdict_with x b p) outcome ∙ ap (λ (x : ℕ). verdict_with o' x p) bound ∙ ap (verdict_with o' b') plan
+-- the plan of a true verdict is feasible
+pub true_feasible : (n : Net) (v : Verdict) → IsTrueOf n v → IfSome v.plan (Feasible n)
+true_feasible n v is = feasible_as v.outcome n v.bound v.plan is
 
-some_solved : (n : Net) (o : Outcome) (bound : ℕ) (p : Plan) → SolvesAs o n bound (Some p) → Least n p × (verdict_with o bound (Some p) ≡ optimal_with n p)
-some_solved n Optimal bound p is = (is.0, same_verdict Optimal Optimal bound (cost_of n p) (Some p) (Some p) refl is.1 refl)
-some_solved n Infeasible bound p is = (let none = is.1 in cc)
-some_solved n Spent bound p is = absurd is
+-- what a search gives within its budget
+pub record IsSearched (n : Net) (f : Forest) (budget filled : ℕ) (x : Cert) : Type 0 where
+  pub own : IsOwn n f budget x
+  pub true_verdict : IsTrueOf n x.verdict
+  pub full : x.verdict.outcome ≡ outcome.Spent → budget < length x.nodes + 2
+  pub filled_is : filled ≡ length x.tables
+  pub solved : f.dropped ≡ [] → Solves n x.verdict
+  pub one : f.dropped ≡ [] → length x.nodes ≡ 1
+  pub accepted : f.dropped ≡ [] → IsAcceptedBytes n (cert_bytes x) x.verdict
 
-none_solved : (n : Net) (o : Outcome) (bound : ℕ) → SolvesAs o n bound None → Empty n × (verdict_with o bound None ≡ infeasible)
-none_solved n Optimal bound is = absurd is
-none_solved n Infeasible bound is = (is.2, same_verdict Infeasible Infeasible bound INF None None refl is.0 refl)
-none_solved n Spent bound is = absurd is
-
--- the plan of a verdict that solves the network is a least one
-pub plan_solves : (n : Net) (v : Verdict) (p : Plan) → Solves n v → v.plan ≡ Some p → Least n p × (v ≡ optimal_with n p)
-plan_solves n v p solves is =
-    let some = some_solved n v.outcome v.bound p (subst (SolvesAs v.outcome n v.bound) is solves) in
-    (some.0, ap (verdict_with v.outcome v.bound) is ∙ some.1)
-
--- where it has none, no plan is feasible
-pub none_solves : (n : Net) (v : Verdict) → Solves n v → v.plan ≡ None → Empty n × (v ≡ infeasible)
-none_solves n v solves is =
-    let none = none_solved n v.outcome v.bound (subst (SolvesAs v.outcome n v.bound) is solves) in
-    (none.0, ap (verdict_with v.outcome v.bound) is ∙ none.1)
+-- the answer that its certificate shows is the solution
+pub solution_shown : {E : Type 0} (r : Result Answer E) (c : Checked) (f : Forest) (budget filled : ℕ) (x : Cert) → IsSearched c.network f budget filled x
+    → IfOk r (λ a. a.ending ≡ ending_by x.verdict.outcome) → IfOk r (λ a. a.rows ≡ solution_rows c x.verdict (length x.nodes) (length x.tables)) → IfOk r (λ a. a.cert ≡ Some x)
+    → IfOk r (λ a. IsSolution a.ending a.rows filled (bytes_in a.cert) c f budget)
+solution_shown (Err e) c f budget filled x is ending rows cert = tt
+solution_shown (Ok a) c f budget filled x is ending rows cert = record {
+  search = x;
+  own = is.own;
+  true_verdict = is.true_verdict;
+  ending_is = ending;
+  rows_are = rows;
+  filled_is = is.filled_is;
+  full = is.full;
+  solved = is.solved;
+  one = is.one;
+  shown = λ tree. subst (λ (y : Option Cert). IsShown c.network (bytes_in y) x.verdict) (sym cert) (is.accepted tree);
+}

@@ -52,6 +52,7 @@ puts_all r e rows cert filled reads ticks answer puts = (reads, puts.writes, put
 answered_case : (r : Run) (e : Ending) → Answered r e → StatusCase r (status_of e)
 answered_case r ending.Done answered = answered
 answered_case r ending.Infeasible answered = answered
+answered_case r ending.Spent answered = answered
 answered_case r ending.Words answered = answered
 answered_case r ending.Refused answered = answered
 answered_case r ending.TooLong answered = answered

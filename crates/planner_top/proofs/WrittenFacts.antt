@@ -1,5 +1,5 @@
 -- The lines of a certificate of one node are accepted.
-use Rattle.std.proofs.Common.{◌≡◌, ◌+◌, List, [], ◌∷◌, ◌++◌, length, map, take, drop, Option, Some, None, Result, Ok, Err, sym, ap, subst, ◌∙◌, arith, length-append}
+use Rattle.std.proofs.Common.{◌≡◌, ℕ, ◌+◌, List, [], ◌∷◌, ◌++◌, length, map, take, drop, Option, Some, None, Result, Ok, Err, sym, ap, subst, ◌∙◌, arith, length-append}
 use Rattle.std.specs.Prelude.{All, IfSome, IfOk, max, ⊤}
 use Rattle.std.proofs.lemmas.List.{append-nil}
 use Rattle.std.proofs.lemmas.List.Elements.{All-nil, All-cons, All-head, All-tail}
@@ -24,7 +24,10 @@ use Rattle.bound_cert.specs.Order.{HasSeen, AllInOrder}
 use Rattle.bound_cert.specs.Sizes.{HasFewTimes, IsSmallTable, IsSmallNode, HasFewNumbers}
 use Rattle.bound_cert.specs.Laws.{IsShort}
 use Rattle.bound_cert.proofs.ShortFacts.{short_law}
-use Rattle.range_branch.specs.Sizes.{IsShortTable, IsShortNode, IsShortCert}
+use Rattle.tree_order.specs.declared.forest.Forest.{Forest}
+use Rattle.range_nodes.specs.Sizes.{IsShortTable, IsShortNode}
+use Rattle.range_branch.specs.Sizes.{IsShortCert}
+use Rattle.range_branch.specs.Own.{IsOwn}
 use Rattle.cert_check.specs.Bytes.{IsAcceptedBytes}
 use Rattle.cert_check.proofs.WrittenFacts.{written_law}
 use Rattle.planner_top.specs.Certificates.{cert_bytes}
@@ -107,8 +110,8 @@ cert_accepted n c valid keep one seen short =
     (nodes_fit n c.head c.tables c.nodes c.verdict valid one.0 seen (subst (λ (s : List Split). IsShortCert n (at s)) one.1 short)) in
     written_law n c keep one.1 (in_order n none_held (items_of c) keep fit) (all_short n none_held (items_of c) keep fit)
 
--- a search gives one that is
-pub search_accepted : {E : Type 0} (n : Net) (r : Result Cert E) → IsNetwork n → IfOk r (λ c. AllKeep n none_held (items_of c)) → IfOk r (λ c. (length c.nodes ≡ 1) × (c.splits ≡ []))
-    → IfOk r (λ c. (node_at c.nodes 0).seen ≡ length c.tables) → IfOk r (IsShortCert n) → IfOk r (λ c. IsAcceptedBytes n (cert_bytes c) c.verdict)
-search_accepted n (Ok c) valid keep one seen short = cert_accepted n c valid keep one seen short
-search_accepted n (Err e) valid keep one seen short = tt
+-- a search gives one that is, where the forest drops no arc
+pub search_accepted : {E : Type 0} (n : Net) (f : Forest) (budget : ℕ) (r : Result Cert E) → IsNetwork n → IfOk r (IsOwn n f budget) → IfOk r (λ c. f.dropped ≡ [] → (length c.nodes ≡ 1) × (c.splits ≡ []))
+    → IfOk r (λ c. f.dropped ≡ [] → (node_at c.nodes 0).seen ≡ length c.tables) → IfOk r (IsShortCert n) → IfOk r (λ c. f.dropped ≡ [] → IsAcceptedBytes n (cert_bytes c) c.verdict)
+search_accepted n f budget (Ok c) valid own one seen short = λ tree. cert_accepted n c valid own.keep (one tree) (seen tree) short
+search_accepted n f budget (Err e) valid own one seen short = tt

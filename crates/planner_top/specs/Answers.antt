@@ -1,19 +1,25 @@
 -- What a run answers to its words and files, where no call on the outside failed and memory sufficed.
-use Rattle.std.specs.Prelude.{◌≡◌, ◌≤◌, ◌↔◌, ℕ, List, [], ◌∷◌, length, Option, Some, None, Result, Ok, Err, IsErr, MatchResult, MatchOption, IfSome, ⊤}
+use Rattle.std.specs.Prelude.{◌≡◌, ◌<◌, ◌≤◌, ◌+◌, ◌↔◌, ℕ, List, [], ◌∷◌, length, Option, Some, None, Result, Ok, Err, IsErr, MatchResult, MatchOption, IfSome, ⊤}
 use Rattle.service_model.specs.declared.plan.Plan.{Plan}
 use Rattle.service_model.specs.declared.breaks.Break.{Break}
-use Rattle.service_model.specs.Plans.{Feasible, Least, Empty}
+use Rattle.service_model.specs.declared.cert.Cert.{Cert}
+use Rattle.service_model.specs.declared.cert.Outcome.{Outcome}
+use Rattle.service_model.specs.declared.cert.Outcome.TheVariants as outcome
+use Rattle.service_model.specs.Plans.{Feasible}
 use Rattle.service_model.specs.declared.cert.Verdict.{Verdict}
 use Rattle.service_model.specs.Breaks.{first_break_of}
 use Rattle.service_model.specs.Verdicts.{IsTrueOf}
 use Rattle.cert_check.specs.Bytes.{IsAcceptedBytes, IsRefusedBytes}
 use Rattle.gsm_outside.specs.Held.{Held}
+use Rattle.tree_order.specs.declared.forest.Forest.{Forest}
+use Rattle.range_branch.specs.Own.{IsOwn}
+use Rattle.range_branch.specs.Solutions.{Solves}
 use Rattle.network_check.specs.declared.checked.Checked.{Checked}
-use Rattle.planner_top.specs.Asked.{Asked, asked_of}
+use Rattle.planner_top.specs.Asked.{Asked, asked_of, terms_of}
 use Rattle.planner_top.specs.Contents.{too_long_of, contents_of}
 use Rattle.planner_top.specs.Tasks.{IsTask}
-use Rattle.planner_top.specs.Texts.{plan_rows, infeasible_rows, audit_rows, broken_row, valid_row, not_accepted_row, stop_row}
-use Rattle.planner_top.specs.Certificates.{optimal_with, infeasible, IsShown}
+use Rattle.planner_top.specs.Texts.{solution_rows, audit_rows, broken_row, valid_row, not_accepted_row, stop_row}
+use Rattle.planner_top.specs.Certificates.{IsShown}
 use Rattle.planner_top.specs.declared.filled.TheConstants.{MOST_FILLED}
 use Rattle.planner_top.specs.declared.command.Command.{Command}
 use Rattle.planner_top.specs.declared.command.Command.TheVariants as command
@@ -28,7 +34,7 @@ use Rattle.planner_top.specs.declared.answer.Ending.TheVariants as ending
 -- what a request asks to be done, or why it is refused: by the length of a file, or by a rule on files
 abbrev pub IsAskedProblem : Asked → Held → Result Task Stop → Type 0
 IsAskedProblem q held problem =
-    MatchOption (too_long_of q held) (IsTask q.command q.horizon (contents_of q held) problem) (λ word. problem ≡ Err (stop.TooLong word))
+    MatchOption (too_long_of q held) (IsTask q.command (terms_of q) q.horizon (contents_of q held) problem) (λ word. problem ≡ Err (stop.TooLong word))
 
 -- what words ask to be done, or why they are refused
 abbrev pub IsProblem : List (List ℕ) → Held → Result Task Stop → Type 0
@@ -44,15 +50,27 @@ ending_of (stop.Refused fault) = ending.Refused
 abbrev pub IsRefusal : Ending → List (List (List ℕ)) → ℕ → Option (List ℕ) → Stop → Type 0
 IsRefusal e rows filled cert s = (e ≡ ending_of s) × (rows ≡ stop_row s ∷ []) × (filled ≡ 0) × (cert ≡ None)
 
--- the solution of a network, with its lines: a least plan, or none where no plan is feasible; a table was filled for each stage,
--- and an accepted certificate shows what the lines tell
-abbrev pub IsSolution : Ending → List (List (List ℕ)) → ℕ → Option (List ℕ) → Checked → Type 0
-IsSolution ending.Done rows filled cert c =
-    (plan : Plan) × Least c.network plan × (rows ≡ plan_rows c plan filled) × (filled ≡ length c.network.stages)
-    × IsShown c.network cert (optimal_with c.network plan)
-IsSolution ending.Infeasible rows filled cert c =
-    Empty c.network × (rows ≡ infeasible_rows filled) × (filled ≡ length c.network.stages) × IsShown c.network cert infeasible
-IsSolution _ rows filled cert c = ⊥
+-- the ending of a search that ended so
+abbrev pub ending_by : Outcome → Ending
+ending_by outcome.Optimal = ending.Done
+ending_by outcome.Infeasible = ending.Infeasible
+ending_by outcome.Spent = ending.Spent
+
+-- the solution of a network, with its lines: a search within the budget has a certificate of its own, whose verdict is true of the
+-- network and is printed with the numbers of its ranges and of its tables
+pub record IsSolution (e : Ending) (rows : List (List (List ℕ))) (filled : ℕ) (cert : Option (List ℕ)) (c : Checked) (f : Forest) (budget : ℕ) : Type 0 where
+  pub search : Cert
+  pub own : IsOwn c.network f budget search
+  pub true_verdict : IsTrueOf c.network search.verdict
+  pub ending_is : e ≡ ending_by search.verdict.outcome
+  pub rows_are : rows ≡ solution_rows c search.verdict (length search.nodes) (length search.tables)
+  pub filled_is : filled ≡ length search.tables
+  -- the budget is spent only where two further ranges would pass it
+  pub full : search.verdict.outcome ≡ outcome.Spent → budget < length search.nodes + 2
+  -- where the forest drops no arc, one range solves the network, and the bytes of the certificate are accepted with the verdict
+  pub solved : f.dropped ≡ [] → Solves c.network search.verdict
+  pub one : f.dropped ≡ [] → length search.nodes ≡ 1
+  pub shown : f.dropped ≡ [] → IsShown c.network cert search.verdict
 
 -- the audit of a plan, with its lines: it is feasible, or the first rule that it breaks
 abbrev pub IsAudit : Ending → List (List (List ℕ)) → Checked → Plan → Type 0
@@ -71,7 +89,7 @@ IsCheck _ rows c bytes = ⊥
 
 -- a task that is done, with its lines, the number of tables that were filled for it and the bytes of the certificate that was made
 abbrev pub IsDone : Ending → List (List (List ℕ)) → ℕ → Option (List ℕ) → Task → Type 0
-IsDone e rows filled cert (task.Solve c f) = IsSolution e rows filled cert c
+IsDone e rows filled cert (task.Solve c f budget) = IsSolution e rows filled cert c f budget
 IsDone e rows filled cert (task.Audit c plan) = IsAudit e rows c plan × (filled ≡ 0) × (cert ≡ None)
 IsDone e rows filled cert (task.Check c bytes) = IsCheck e rows c bytes × (filled ≡ 0) × (cert ≡ None)
 
@@ -80,8 +98,10 @@ abbrev pub MayEnd : Command → Ending → Type 0
 MayEnd command.Solve ending.NotFeasible = ⊥
 MayEnd command.Solve ending.NotAccepted = ⊥
 MayEnd command.Audit ending.Infeasible = ⊥
+MayEnd command.Audit ending.Spent = ⊥
 MayEnd command.Audit ending.NotAccepted = ⊥
 MayEnd command.Check ending.Infeasible = ⊥
+MayEnd command.Check ending.Spent = ⊥
 MayEnd command.Check ending.NotFeasible = ⊥
 MayEnd _ _ = ⊤
 

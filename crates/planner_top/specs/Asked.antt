@@ -1,18 +1,20 @@
 -- What the words of a command line ask for.
-use Rattle.std.specs.Prelude.{ℕ, List, [], ◌∷◌, drop, Option, Some, None, Result, Ok, Err, unwrap_or, if◌then◌else◌}
+use Rattle.std.specs.Prelude.{ℕ, Bool, List, [], ◌∷◌, drop, Option, Some, None, is_some, Result, Ok, Err, unwrap_or, if◌then◌else◌}
 use Rattle.service_model.specs.declared.limits.TheConstants.{MAX_HORIZON}
+use Rattle.service_model.specs.declared.cert_rules.TheConstants.{MAX_BUDGET}
 use Rattle.gsm_nums.specs.Whole.{whole_of, without_spaces}
 use Rattle.gsm_nums.specs.declared.whole.NumFault.{NumFault}
 use Rattle.planner_top.specs.declared.command.Command.{Command}
 use Rattle.planner_top.specs.declared.command.Command.TheVariants.{Solve}
-use Rattle.planner_top.specs.declared.command.Key.TheVariants.{Stages, Tables, Arcs, Horizon}
+use Rattle.planner_top.specs.declared.command.Key.TheVariants.{Stages, Tables, Arcs, Horizon, Ranges}
+use Rattle.planner_top.specs.declared.asked.Terms.{Terms}
 use Rattle.planner_top.specs.declared.word_fault.WordFault.{WordFault}
 use Rattle.planner_top.specs.declared.stop.FileWord.{FileWord}
 use Rattle.planner_top.specs.Commands.{key_text, command_named, file_key, further_file, written_file}
 use Rattle.planner_top.specs.Words.{has_key, value_at, word_fault}
 
 -- a command, the names of the three files of a network, of the command's further file, if it has one, and of the certificate
--- that is to be written, if one is asked for, and a horizon
+-- that is to be written, if one is asked for, a horizon, and a budget of ranges, if one is asked for
 pub record Asked : Type 0 where
   pub command : Command
   pub stages : List ℕ
@@ -21,14 +23,20 @@ pub record Asked : Type 0 where
   pub further : List ℕ
   pub cert : Option (List ℕ)
   pub horizon : ℕ
+  pub ranges : Option ℕ
 
-abbrev pub or_zero : Result ℕ NumFault → ℕ
-or_zero (Ok n) = n
-or_zero (Err e) = 0
+-- the number that was read, and another where none was
+abbrev pub or_other : ℕ → Result ℕ NumFault → ℕ
+or_other other (Ok n) = n
+or_other other (Err e) = other
 
--- the number that a value shows up to a greatest
-unfoldable pub number_to : ℕ → List ℕ → ℕ
-number_to most value = or_zero (whole_of (without_spaces value) 0 most)
+-- the number that a value shows from a least to a greatest
+unfoldable pub number_in : ℕ → ℕ → List ℕ → ℕ
+number_in least most value = or_other least (whole_of (without_spaces value) least most)
+
+-- the budget of ranges, where its key is given
+abbrev pub ranges_in : List (List ℕ) → Option ℕ
+ranges_in later = if has_key later (key_text Ranges) then Some (number_in 1 MAX_BUDGET (value_at Ranges later)) else None
 
 -- the name of a command's further file, if it has one
 abbrev pub further_name : Option FileWord → List (List ℕ) → List ℕ
@@ -49,7 +57,8 @@ asked_by command later = record {
   arcs = value_at Arcs later;
   further = further_name (further_file command) later;
   cert = written_name (written_file command) later;
-  horizon = number_to MAX_HORIZON (value_at Horizon later);
+  horizon = number_in 0 MAX_HORIZON (value_at Horizon later);
+  ranges = ranges_in later;
 }
 
 abbrev pub unless_fault : Option WordFault → Asked → Result Asked WordFault
@@ -72,3 +81,7 @@ cert_in (Err fault) = None
 -- the name of the certificate that words ask for, if they do and no rule on them fails
 abbrev pub cert_name : List (List ℕ) → Option (List ℕ)
 cert_name words = cert_in (asked_of words)
+
+-- on what terms a network is to be solved
+abbrev pub terms_of : Asked → Terms
+terms_of q = record { ranges = q.ranges; shown = is_some q.cert }

@@ -1,12 +1,8 @@
 -- Certificates of answers, as bytes on a shelf.
 use Rattle.std.specs.Prelude.{◌≡◌, ◌⊎◌, ℕ, List, ◌++◌, flat_map, Option, Some, None, option_map, IsSomeAnd}
-use Rattle.service_model.specs.declared.limits.TheConstants.{INF}
-use Rattle.service_model.specs.declared.plan.Plan.{Plan}
-use Rattle.service_model.specs.declared.cert.Outcome.TheVariants.{Optimal, Infeasible}
 use Rattle.service_model.specs.declared.cert.Verdict.{Verdict}
 use Rattle.service_model.specs.declared.cert.Cert.{Cert}
 use Rattle.service_model.specs.Net.{Net}
-use Rattle.service_model.specs.Plans.{cost_of}
 use Rattle.service_model.specs.Items.{items_of}
 use Rattle.gsm_outside.specs.Held.{Held, put_in}
 use Rattle.bound_cert.specs.Lines.{line_of}
@@ -18,14 +14,6 @@ cert_bytes c = flat_map line_of (items_of c)
 
 abbrev pub bytes_in : Option Cert → Option (List ℕ)
 bytes_in cert = option_map cert_bytes cert
-
--- the plan is a least one
-abbrev pub optimal_with : Net → Plan → Verdict
-optimal_with n p = record { outcome = Optimal; bound = cost_of n p; plan = Some p }
-
--- no plan is feasible
-abbrev pub infeasible : Verdict
-infeasible = record { outcome = Infeasible; bound = INF; plan = None }
 
 -- there are bytes which are an accepted certificate of the verdict
 abbrev pub IsShown : Net → Option (List ℕ) → Verdict → Type 0

@@ -1,10 +1,11 @@
 -- The commands with their keys.
 use Rattle.std.specs.Prelude.{ℕ, ◌^◌, ◌≤◌, List, [], ◌∷◌, Option, Some, None, codes, bytes_eq, find, ⊤}
 use Rattle.service_model.specs.declared.limits.TheConstants.{MAX_HORIZON}
+use Rattle.service_model.specs.declared.cert_rules.TheConstants.{MAX_BUDGET}
 use Rattle.planner_top.specs.declared.command.Command.{Command}
 use Rattle.planner_top.specs.declared.command.Command.TheVariants.{Solve, Audit, Check}
 use Rattle.planner_top.specs.declared.command.Key.{Key}
-use Rattle.planner_top.specs.declared.command.Key.TheVariants.{Stages, Tables, Arcs, Horizon, Plan, Cert}
+use Rattle.planner_top.specs.declared.command.Key.TheVariants.{Stages, Tables, Arcs, Horizon, Ranges, Plan, Cert}
 use Rattle.planner_top.specs.declared.command.ValueKind.{ValueKind}
 use Rattle.planner_top.specs.declared.command.ValueKind.TheVariants.{FileName, WholeNumber}
 use Rattle.planner_top.specs.declared.stop.FileWord.{FileWord}
@@ -28,7 +29,7 @@ required_keys Check = Stages ∷ Tables ∷ Arcs ∷ Horizon ∷ Cert ∷ []
 
 -- the further keys that a command takes
 abbrev pub further_keys : Command → List Key
-further_keys Solve = Cert ∷ []
+further_keys Solve = Ranges ∷ Cert ∷ []
 further_keys Audit = []
 further_keys Check = []
 
@@ -38,6 +39,7 @@ key_text Stages = codes "stages"
 key_text Tables = codes "tables"
 key_text Arcs = codes "arcs"
 key_text Horizon = codes "horizon"
+key_text Ranges = codes "ranges"
 key_text Plan = codes "plan"
 key_text Cert = codes "cert"
 
@@ -47,6 +49,7 @@ value_kind Stages = FileName
 value_kind Tables = FileName
 value_kind Arcs = FileName
 value_kind Horizon = WholeNumber 0 MAX_HORIZON
+value_kind Ranges = WholeNumber 1 MAX_BUDGET
 value_kind Plan = FileName
 value_kind Cert = FileName
 

@@ -1,5 +1,5 @@
 -- The promise of the top call.
-use Rattle.std.specs.Prelude.{◌≡◌, ◌≢◌, ◌↔◌, ◌⊎◌, ℕ, List, Some, None, Ok, Err}
+use Rattle.std.specs.Prelude.{◌≡◌, ◌≢◌, ◌<◌, ◌≤◌, ◌+◌, ◌↔◌, ◌⊎◌, ℕ, List, [], length, Some, None, Ok, Err}
 use Rattle.stage_file.specs.declared.fault.FileFault.{FileFault}
 use Rattle.tree_order.specs.declared.forest.Forest.{Forest}
 use Rattle.network_check.specs.declared.checked.Checked.{Checked}
@@ -7,7 +7,11 @@ use Rattle.gsm_outside.specs.Held.{Held}
 use Rattle.gsm_outside.specs.Causes.{Rose}
 use Rattle.service_model.specs.declared.plan.Plan.{Plan}
 use Rattle.service_model.specs.declared.cert.Verdict.{Verdict}
-use Rattle.service_model.specs.Plans.{Feasible, Least, Empty}
+use Rattle.service_model.specs.declared.cert.Outcome.TheVariants as outcome
+use Rattle.service_model.specs.declared.cert.Cert.{Cert}
+use Rattle.service_model.specs.Net.{Net}
+use Rattle.service_model.specs.Plans.{Feasible, Least, Empty, cost_of}
+use Rattle.range_branch.specs.Own.{IsOwn}
 use Rattle.cert_check.specs.Bytes.{IsAcceptedBytes, IsRefusedBytes}
 use Rattle.planner_top.specs.Answers.{IsProblem}
 use Rattle.planner_top.specs.Asked.{cert_name}
@@ -24,21 +28,49 @@ use Rattle.planner_top.specs.declared.status.Status.TheVariants as status
 
 -- a task that can be done: there is a least plan, the plan is feasible, or the certificate is accepted
 abbrev pub CanBeDone : Task → Type 0
-CanBeDone (task.Solve c f) = (plan : Plan) × Least c.network plan
+CanBeDone (task.Solve c f budget) = (plan : Plan) × Least c.network plan
 CanBeDone (task.Audit c plan) = Feasible c.network plan
 CanBeDone (task.Check c bytes) = (v : Verdict) × IsAcceptedBytes c.network bytes v
 
--- which ending comes exactly where, by what words and files ask to be done, or their refusal
+-- a search within the budget ended before it found an answer: its forest drops an arc, two further ranges would pass the budget, and
+-- its bound is above the cost of no feasible plan
+pub record IsSpent (n : Net) (f : Forest) (budget : ℕ) : Type 0 where
+  pub drops : f.dropped ≢ []
+  pub search : Cert
+  pub own : IsOwn n f budget search
+  pub spent : search.verdict.outcome ≡ outcome.Spent
+  pub full : budget < length search.nodes + 2
+  pub below : (p : Plan) → Feasible n p → search.verdict.bound ≤ cost_of n p
+
+-- the task is to solve a network whose forest drops an arc
+abbrev pub DropsArc : Task → Type 0
+DropsArc (task.Solve c f budget) = f.dropped ≢ []
+DropsArc (task.Audit c plan) = ⊥
+DropsArc (task.Check c bytes) = ⊥
+
+-- the run ends so, or its budget was spent first, which happens only where the forest drops an arc
+abbrev pub EndsOrSpent : Ending → Ending → Task → Type 0
+EndsOrSpent e wanted t = (e ≡ wanted) ⊎ ((e ≡ ending.Spent) × DropsArc t)
+
+-- which ending comes exactly where, by what words and files ask to be done, or their refusal; a network whose forest drops an arc may
+-- end spent in the place of done or infeasible
 pub record Exactly (said : List (List ℕ)) (m : Held) (e : Ending) : Type 0 where
   pub words : (e ≡ ending.Words) ↔ ((fault : WordFault) × IsProblem said m (Err (stop.Words fault)))
   pub too_long : (e ≡ ending.TooLong) ↔ ((word : FileWord) × IsProblem said m (Err (stop.TooLong word)))
   pub refused : (e ≡ ending.Refused) ↔ ((fault : FileFault) × IsProblem said m (Err (stop.Refused fault)))
-  pub infeasible : (e ≡ ending.Infeasible) ↔ ((c : Checked) × (f : Forest) × IsProblem said m (Ok (task.Solve c f)) × Empty c.network)
   pub not_accepted :
       (e ≡ ending.NotAccepted)
       ↔ ((c : Checked) × (bytes : List ℕ) × IsProblem said m (Ok (task.Check c bytes)) × ((line : ℕ) × (rule : ℕ) × IsRefusedBytes c.network bytes line rule))
   pub not_feasible : (e ≡ ending.NotFeasible) ↔ ((c : Checked) × (plan : Plan) × IsProblem said m (Ok (task.Audit c plan)) × (¬ Feasible c.network plan))
-  pub done : (e ≡ ending.Done) ↔ ((t : Task) × IsProblem said m (Ok t) × CanBeDone t)
+  pub infeasible :
+      e ≡ ending.Infeasible → (c : Checked) × (f : Forest) × (budget : ℕ) × IsProblem said m (Ok (task.Solve c f budget)) × Empty c.network
+  pub where_infeasible :
+      (c : Checked) (f : Forest) (budget : ℕ) → IsProblem said m (Ok (task.Solve c f budget)) → Empty c.network
+      → EndsOrSpent e ending.Infeasible (task.Solve c f budget)
+  pub done : e ≡ ending.Done → (t : Task) × IsProblem said m (Ok t) × CanBeDone t
+  pub where_done : (t : Task) → IsProblem said m (Ok t) → CanBeDone t → EndsOrSpent e ending.Done t
+  pub spent :
+      e ≡ ending.Spent → (c : Checked) × (f : Forest) × (budget : ℕ) × IsProblem said m (Ok (task.Solve c f budget)) × IsSpent c.network f budget
 
 -- no call on the outside failed, and memory sufficed
 pub record IsSure (r : Run) : Type 0 where
@@ -56,8 +88,6 @@ pub record Headline (r : Run) : Type 0 where
   pub later : IsLater r
   -- where no call failed and memory sufficed there is an answer
   pub complete : IsSure r → (e : Ending) × (r.status ≡ status_of e)
-  -- no budget is spent yet, whatever failed
-  pub never : r.status ≢ status.Spent
   -- an answer is true of the words and files where the shelf tells, its lines follow what was written, its certificate is on the shelf
   -- where the words ask for it, and no call failed
   pub answer : (e : Ending) → r.status ≡ status_of e → Answered r e

@@ -33,7 +33,7 @@ IsUnreadOf words held word = (q : Asked) × (asked_of words ≡ Ok q) × IsUnrea
 
 -- a task is the one of a command
 abbrev pub IsTaskOf : Command → Task → Type 0
-IsTaskOf command.Solve (task.Solve c f) = ⊤
+IsTaskOf command.Solve (task.Solve c f budget) = ⊤
 IsTaskOf command.Audit (task.Audit c plan) = ⊤
 IsTaskOf command.Check (task.Check c bytes) = ⊤
 IsTaskOf _ _ = ⊥

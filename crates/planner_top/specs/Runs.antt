@@ -61,6 +61,7 @@ PartFollows before text after = (n : ℕ) × (after ≡ option_map (λ bytes. by
 abbrev pub status_of : Ending → Status
 status_of ending.Done = status.Done
 status_of ending.Infeasible = status.Infeasible
+status_of ending.Spent = status.Spent
 status_of ending.Words = status.Words
 status_of ending.Refused = status.Refused
 status_of ending.TooLong = status.TooLong
@@ -160,6 +161,7 @@ pub record IsLater (r : Run) : Type 0 where
 abbrev pub StatusCase : Run → Status → Type 0
 StatusCase r status.Done = Answered r ending.Done
 StatusCase r status.Infeasible = Answered r ending.Infeasible
+StatusCase r status.Spent = Answered r ending.Spent
 StatusCase r status.Words = Answered r ending.Words
 StatusCase r status.Refused = Answered r ending.Refused
 StatusCase r status.TooLong = Answered r ending.TooLong
@@ -168,7 +170,6 @@ StatusCase r status.NotFeasible = Answered r ending.NotFeasible
 StatusCase r status.ReadFault = (r.reads ≤ r.reads_after) × FailedRead r
 StatusCase r status.WriteFault = IsLater r × (Rose r.faults r.faults_after ⊎ IsUnwritten r) × PrintsFront r
 StatusCase r status.NoMemory = IsLater r × IsLeft r
-StatusCase r status.Spent = ⊥
 
 -- what the status of a run whose read failed says of its output
 abbrev pub FaultCase : FileWord → Option (List ℕ) → Option (List ℕ) → ℕ → ℕ → Status → Type 0

@@ -53,21 +53,37 @@ report_header = codes "stage" ∷ codes "inbound" ∷ codes "outbound" ∷ codes
 abbrev pub report_rows : Checked → Plan → List (List (List ℕ))
 report_rows c p = map (report_row c p) (range_with_len 0 (length c.network.stages))
 
-abbrev pub ranges_row : List (List ℕ)
-ranges_row = codes "ranges" ∷ codes "1" ∷ []
+-- how many ranges were relaxed
+abbrev pub ranges_row : ℕ → List (List ℕ)
+ranges_row ranges = codes "ranges" ∷ decimal ranges ∷ []
 
 -- how many tables were filled
 abbrev pub filled_row : ℕ → List (List ℕ)
 filled_row filled = codes "filled" ∷ decimal filled ∷ []
 
--- what is printed for a least plan
-abbrev pub plan_rows : Checked → Plan → ℕ → List (List (List ℕ))
-plan_rows c p filled =
-    (codes "optimal" ∷ decimal (cost_of c.network p) ∷ []) ∷ report_header ∷ (report_rows c p ++ ranges_row ∷ filled_row filled ∷ [])
+-- the cost of a plan, and a dash where there is none
+abbrev pub cost_text : Net → Option Plan → List ℕ
+cost_text n None = codes "-"
+cost_text n (Some p) = decimal (cost_of n p)
 
--- what is printed where no plan is feasible
-abbrev pub infeasible_rows : ℕ → List (List (List ℕ))
-infeasible_rows filled = (codes "infeasible" ∷ []) ∷ ranges_row ∷ filled_row filled ∷ []
+-- how a search ended: what the plan found costs, and where the budget was spent the bound before it
+abbrev pub outcome_as : Outcome → Net → ℕ → Option Plan → List (List ℕ)
+outcome_as Optimal n bound plan = codes "optimal" ∷ cost_text n plan ∷ []
+outcome_as Infeasible n bound plan = codes "infeasible" ∷ []
+outcome_as Spent n bound plan = codes "spent" ∷ decimal bound ∷ cost_text n plan ∷ []
+
+abbrev pub outcome_row : Net → Verdict → List (List ℕ)
+outcome_row n v = outcome_as v.outcome n v.bound v.plan
+
+-- the report on a plan, where there is one
+abbrev pub plan_report : Checked → Option Plan → List (List (List ℕ))
+plan_report c None = []
+plan_report c (Some p) = report_header ∷ report_rows c p
+
+-- what is printed for a verdict, with the number of ranges and that of tables
+abbrev pub solution_rows : Checked → Verdict → ℕ → ℕ → List (List (List ℕ))
+solution_rows c v ranges filled =
+    outcome_row c.network v ∷ (plan_report c v.plan ++ ranges_row ranges ∷ filled_row filled ∷ [])
 
 -- what is printed for a feasible plan
 abbrev pub audit_rows : Checked → Plan → List (List (List ℕ))
@@ -84,21 +100,9 @@ broken_names c broken =
 abbrev pub broken_row : Checked → Break → List (List ℕ)
 broken_row c broken = codes "broken" ∷ (codes "B" ++ decimal broken.rule) ∷ broken_names c broken
 
--- the cost of a plan, and a dash where there is none
-abbrev pub cost_text : Net → Option Plan → List ℕ
-cost_text n None = codes "-"
-cost_text n (Some p) = decimal (cost_of n p)
-
--- what is printed for an accepted certificate whose search ended so: what the plan found costs, and where the budget was
--- spent the bound before it
-abbrev pub valid_as : Outcome → Net → ℕ → Option Plan → List (List ℕ)
-valid_as Optimal n bound plan = codes "valid" ∷ codes "optimal" ∷ cost_text n plan ∷ []
-valid_as Infeasible n bound plan = codes "valid" ∷ codes "infeasible" ∷ []
-valid_as Spent n bound plan = codes "valid" ∷ codes "spent" ∷ decimal bound ∷ cost_text n plan ∷ []
-
 -- what is printed for a certificate that is accepted with a verdict
 abbrev pub valid_row : Net → Verdict → List (List ℕ)
-valid_row n v = valid_as v.outcome n v.bound v.plan
+valid_row n v = codes "valid" ∷ outcome_row n v
 
 -- a rule on certificates: `K` and its number, or the name of what is not checked yet
 unfoldable pub cert_rule_text : ℕ → List ℕ

@@ -11,6 +11,8 @@ use stage_file::Rows;
 pub enum Ending {
     Done,
     Infeasible,
+    /// The budget of ranges ended first.
+    Spent,
     Words,
     Refused,
     TooLong,

@@ -1,14 +1,14 @@
 // From the words to the answer.
 ghost use Rattle.std.specs.Prelude.{◌≡◌, ◌≤◌, ◌+◌, ◌-◌, ◌^◌, IfOk, OnErr};
 ghost use Rattle.service_model.specs.declared.limits.TheConstants.{MAX_HORIZON};
-ghost use Rattle.planner_top.specs.Requests.{request_as};
+ghost use Rattle.planner_top.specs.Requests.{request_as, IsRanges};
 ghost use Rattle.planner_top.specs.Tasks.{IsReady};
 ghost use Rattle.planner_top.specs.Certificates.{bytes_in};
 ghost use Rattle.planner_top.specs.Answers.{IsDone};
 ghost use Rattle.planner_top.specs.Problems.{ProblemCase, AskedCase, AnswerCase};
 
 use crate::answer::{Answer, Unanswered};
-use crate::asked::Request;
+use crate::asked::{Request, terms_of};
 use crate::audit::audit_of;
 use crate::check::check_of;
 use crate::files::read_files;
@@ -62,13 +62,20 @@ fn asked_problem<S: Shelf>(
     request: &Request<'_>,
     shelf: &mut S,
 ) -> Result<Task, Unsolved>
-    requires { request.now.horizon ≤ MAX_HORIZON }
+    requires horizon { request.now.horizon ≤ MAX_HORIZON }
+    requires ranges { IsRanges request.now.ranges }
     ensures case { AskedCase (request_as request.now) (S.held shelf.old) (S.read_faults shelf.old) (S.read_faults shelf.new) result }
     ensures held { S.held shelf.new ≡ S.held shelf.old }
     ensures writes { S.write_faults shelf.new ≡ S.write_faults shelf.old }
 {
     match read_files(alloc, shelf, request) {
-        Ok(contents) => task_of(alloc, request.command, request.horizon, contents),
+        Ok(contents) => task_of(
+            alloc,
+            request.command,
+            terms_of(request),
+            request.horizon,
+            contents,
+        ),
         Err(unsolved) => Err(unsolved),
     }
 }
@@ -82,7 +89,9 @@ fn done_of<L>(alloc: Global, task: &Task, steps: &mut Steps<L>) -> Result<Answer
     ensures few { steps.new ≤ steps.old + MOST_FILLED }
 {
     match task {
-        Task::Solve(checked, forest) => solution_of(alloc, checked, forest, steps),
+        Task::Solve(checked, forest, budget) => {
+            solution_of(alloc, checked, forest, *budget, steps)
+        }
         Task::Audit(checked, plan) => audit_of(alloc, checked, plan),
         Task::Check(checked, bytes) => check_of(alloc, checked, bytes.as_slice()),
     }

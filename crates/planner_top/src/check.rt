@@ -1,16 +1,16 @@
 // The answer of `check`.
-ghost use Rattle.std.specs.Prelude.{◌≡◌, ◌≤◌, ◌∷◌, [], length, IfOk, IfSome, None};
-ghost use Rattle.service_model.specs.Plans.{Feasible};
+ghost use Rattle.std.specs.Prelude.{◌≡◌, ◌≤◌, ◌∷◌, [], length, IfOk, None};
 ghost use Rattle.service_model.specs.Verdicts.{IsTrueOf};
-ghost use Rattle.planner_top.specs.Texts.{valid_row, cost_text, not_accepted_row, cert_rule_text};
+ghost use Rattle.planner_top.specs.Texts.{valid_row, not_accepted_row, cert_rule_text};
 ghost use Rattle.planner_top.specs.Answers.{IsCheck};
 
 use crate::answer::{Answer, Ending};
 use crate::files::CERT_LIMIT;
+use crate::outcome::push_outcome;
 use crate::text::{number, numbered, row_of};
 use cert_check::{CheckFault, SPLIT_NOT_YET, check_bytes};
 use network_check::Checked;
-use service_model::{List, Network, NoMemory, Outcome, Plan, Verdict};
+use service_model::{List, Network, NoMemory, Verdict};
 use stage_file::{Row, Rows, Text};
 use std::alloc::Global;
 
@@ -48,31 +48,9 @@ fn valid_row(alloc: Global, network: &Network, verdict: &Verdict) -> Result<Row,
     requires { IsTrueOf network.now verdict.now }
     ensures { IfOk result (λ row. row ≡ valid_row network.now verdict.now) }
 {
-    match verdict.outcome {
-        Outcome::Optimal => {
-            let mut row = row_of(alloc, &["valid", "optimal"])?;
-            row.push(cost_text(alloc, network, &verdict.plan)?)?;
-            Ok(row)
-        }
-        Outcome::Infeasible => row_of(alloc, &["valid", "infeasible"]),
-        Outcome::Spent => {
-            let mut row = row_of(alloc, &["valid", "spent"])?;
-            row.push(number(alloc, verdict.bound)?)?;
-            row.push(cost_text(alloc, network, &verdict.plan)?)?;
-            Ok(row)
-        }
-    }
-}
-
-// The cost of a plan, and a dash where there is none.
-fn cost_text(alloc: Global, network: &Network, plan: &Option<Plan>) -> Result<Text, NoMemory>
-    requires { IfSome plan.now (Feasible network.now) }
-    ensures { IfOk result (λ text. text ≡ cost_text network.now plan.now) }
-{
-    match plan {
-        Some(plan) => number(alloc, network.cost(plan)),
-        None => List::copied(alloc, b"-"),
-    }
+    let mut row = row_of(alloc, &["valid"])?;
+    push_outcome(alloc, network, verdict, &mut row)?;
+    Ok(row)
 }
 
 fn not_accepted_rows(alloc: Global, line: u64, rule: u8) -> Result<Rows, NoMemory>

@@ -4,6 +4,7 @@ ghost use Rattle.planner_top.specs.Commands.{command_named, required_keys, furth
 
 use crate::stop::FileWord;
 use service_model::MAX_HORIZON;
+use service_model::cert_rules::MAX_BUDGET;
 
 /// What the first word asks for.
 #[derive(Clone, Copy, Debug, PartialEq, Eq)]
@@ -23,6 +24,8 @@ pub enum Key {
     Tables,
     Arcs,
     Horizon,
+    /// The budget of ranges.
+    Ranges,
     Plan,
     Cert,
 }
@@ -67,7 +70,7 @@ pub fn further_keys(command: Command) -> &'static [Key]
     ensures { result.now ≡ further_keys command }
 {
     match command {
-        Command::Solve => &[Key::Cert],
+        Command::Solve => &[Key::Ranges, Key::Cert],
         Command::Audit | Command::Check => &[],
     }
 }
@@ -81,6 +84,7 @@ pub fn key_text(key: Key) -> &'static str
         Key::Tables => "tables",
         Key::Arcs => "arcs",
         Key::Horizon => "horizon",
+        Key::Ranges => "ranges",
         Key::Plan => "plan",
         Key::Cert => "cert",
     }
@@ -94,6 +98,7 @@ pub fn value_kind(key: Key) -> ValueKind
     match key {
         Key::Stages | Key::Tables | Key::Arcs | Key::Plan | Key::Cert => ValueKind::FileName,
         Key::Horizon => ValueKind::WholeNumber(0, MAX_HORIZON as u64),
+        Key::Ranges => ValueKind::WholeNumber(1, MAX_BUDGET as u64),
     }
 }
 

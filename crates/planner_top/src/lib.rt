@@ -12,6 +12,7 @@ mod fetch;
 mod files;
 mod filled;
 mod not_yet;
+mod outcome;
 mod refusal;
 mod report;
 mod request;
@@ -28,6 +29,8 @@ mod tests_audit;
 mod tests_check;
 #[cfg(test)]
 mod tests_failed;
+#[cfg(test)]
+mod tests_loops;
 #[cfg(test)]
 mod tests_trees;
 mod text;

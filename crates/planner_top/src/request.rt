@@ -1,10 +1,10 @@
 // What the words ask for.
-ghost use Rattle.std.specs.Prelude.{◌≡◌, ◌≤◌, drop, option_map, unwrap_or};
+ghost use Rattle.std.specs.Prelude.{◌≡◌, ◌≤◌, ◌^◌, drop, option_map, unwrap_or};
 ghost use Rattle.service_model.specs.declared.limits.TheConstants.{MAX_HORIZON};
-ghost use Rattle.planner_top.specs.Words.{texts};
-ghost use Rattle.planner_top.specs.Asked.{number_to, further_name, written_name, asked_by, command_of, asked_of, cert_name};
+ghost use Rattle.planner_top.specs.Words.{texts, value_at};
+ghost use Rattle.planner_top.specs.Asked.{number_in, ranges_in, further_name, written_name, asked_by, command_of, asked_of, cert_name};
 ghost use Rattle.planner_top.specs.Commands.{command_named};
-ghost use Rattle.planner_top.specs.Requests.{request_as, RequestCase};
+ghost use Rattle.planner_top.specs.Requests.{request_as, IsRanges, RequestCase};
 
 use crate::asked::Request;
 use crate::command::{Command, Key, command_named, file_key, further_file, key_text, written_file};
@@ -14,6 +14,7 @@ use crate::word_tests::{has_key, value_at};
 use crate::words::Words;
 use gsm_nums::read_whole;
 use service_model::MAX_HORIZON;
+use service_model::cert_rules::MAX_BUDGET;
 
 /// What the words ask for, their keys in any order, or the first rule on words that fails.
 #[tactic(auto, unfolding(crate::specs::Asked::asked_of))]
@@ -40,6 +41,7 @@ pub fn cert_name(words: &Words) -> Option<&str>
 fn request_in(words: &[String]) -> Request<'_>
     ensures value { request_as result ≡ asked_by (command_of (texts words.now)) (drop 1 (texts words.now)) }
     ensures horizon { result.horizon ≤ MAX_HORIZON }
+    ensures ranges { IsRanges result.ranges }
 {
     match words {
         [first, later @ ..] => request_by(command_or_solve(first.as_str()), later),
@@ -57,6 +59,7 @@ fn command_or_solve(word: &str) -> Command
 fn request_by(command: Command, later: &[String]) -> Request<'_>
     ensures value { request_as result ≡ asked_by command (texts later.now) }
     ensures horizon { result.horizon ≤ MAX_HORIZON }
+    ensures ranges { IsRanges result.ranges }
 {
     Request {
         command,
@@ -65,7 +68,8 @@ fn request_by(command: Command, later: &[String]) -> Request<'_>
         arcs: value_at(Key::Arcs, later),
         further: further_name(further_file(command), later),
         cert: written_name(written_file(command), later),
-        horizon: number_to(MAX_HORIZON, value_at(Key::Horizon, later)),
+        horizon: horizon_in(later),
+        ranges: ranges_in(later),
     }
 }
 
@@ -91,14 +95,38 @@ fn written_name(file: Option<FileWord>, later: &[String]) -> Option<&str>
     }
 }
 
-// The number that a value shows; 0 where it shows none up to the greatest, which no rule on words lets through.
-#[tactic(auto, unfolding(crate::specs::Asked::number_to))]
-fn number_to(most: u16, value: &str) -> u16
-    ensures value { result ≡ number_to most value.now }
+// The horizon.
+fn horizon_in(later: &[String]) -> u16
+    ensures value { result ≡ number_in 0 MAX_HORIZON (value_at Key.Horizon (texts later.now)) }
+    ensures within { result ≤ MAX_HORIZON }
+{
+    number_in(0, MAX_HORIZON as u64, value_at(Key::Horizon, later)) as u16
+}
+
+// The budget of ranges, where its key is given.
+fn ranges_in(later: &[String]) -> Option<u32>
+    ensures value { result ≡ ranges_in (texts later.now) }
+    ensures within { IsRanges result }
+{
+    if has_key(later, key_text(Key::Ranges)) {
+        let ranges = number_in(1, MAX_BUDGET as u64, value_at(Key::Ranges, later));
+        Some(ranges as u32)
+    } else {
+        None
+    }
+}
+
+// The number that a value shows; the least where it shows none of its range, which no rule on words lets through.
+#[tactic(auto, unfolding(crate::specs::Asked::number_in))]
+fn number_in(least: u64, most: u64, value: &str) -> u64
+    requires order { least ≤ most }
+    requires small { most ≤ 10 ^ 18 }
+    ensures value { result ≡ number_in least most value.now }
+    ensures above { least ≤ result }
     ensures within { result ≤ most }
 {
-    match read_whole(value.as_bytes(), 0, most as u64) {
-        Ok(number) => number as u16,
-        Err(_) => 0,
+    match read_whole(value.as_bytes(), least, most) {
+        Ok(number) => number,
+        Err(_) => least,
     }
 }

@@ -1,13 +1,15 @@
-// The certificate of a network whose forest drops no arc.
-ghost use Rattle.std.specs.Prelude.{◌≡◌, ◌≤◌, ◌+◌, ◌^◌, [], IfOk, OnOk, length};
+// The certificate of a network's search.
+ghost use Rattle.std.specs.Prelude.{◌≡◌, ◌≤◌, ◌<◌, ◌+◌, ◌^◌, [], IfOk, length};
+ghost use Rattle.service_model.specs.declared.cert.Outcome.TheVariants as outcome;
+ghost use Rattle.service_model.specs.Verdicts.{IsTrueOf};
 ghost use Rattle.tree_order.specs.Forest.{IsForest};
-ghost use Rattle.network_check.specs.Budgets.{IsDefaultBudget};
+ghost use Rattle.range_branch.specs.Own.{IsOwn};
 ghost use Rattle.range_branch.specs.Solutions.{Solves};
 ghost use Rattle.cert_check.specs.Bytes.{IsAcceptedBytes};
 ghost use Rattle.planner_top.specs.Certificates.{cert_bytes};
+ghost use Rattle.planner_top.specs.Tasks.{IsBudget};
 
 use crate::filled::MOST_FILLED;
-use network_check::budget_of;
 use range_branch::search;
 use service_model::{Cert, Network, NoMemory, topological_order};
 use std::alloc::Global;
@@ -15,33 +17,30 @@ use step_ledger::Steps;
 use table_pool::Pool;
 use tree_order::Forest;
 
-/// The certificate of a least plan, or that no plan is feasible. Each stage has one table, which is one step.
+/// The certificate of a search with so many ranges at most. Each table is one step.
 pub fn cert_for<L>(
     alloc: Global,
     network: &Network,
     forest: &Forest,
+    budget: u32,
     steps: &mut Steps<L>,
 ) -> Result<Cert, NoMemory>
     requires forest { IsForest (length network.now.stages) network.now.arcs forest.now }
-    requires tree { forest.now.dropped ≡ [] }
+    requires budget { IsBudget network.now budget }
     requires room { steps.old ≤ 2 ^ 62 }
-    ensures solved { IfOk result (λ c. Solves network.now c.verdict) }
-    ensures accepted { IfOk result (λ c. IsAcceptedBytes network.now (cert_bytes c) c.verdict) }
-    ensures budget { IfOk result (λ c. IsDefaultBudget network.now c.head.budget) }
-    ensures filled { OnOk result (steps.new ≡ steps.old + length network.now.stages) }
+    ensures own { IfOk result (IsOwn network.now forest.now budget) }
+    ensures true_verdict { IfOk result (λ c. IsTrueOf network.now c.verdict) }
+    ensures full { IfOk result (λ c. c.verdict.outcome ≡ outcome.Spent → budget < length c.nodes + 2) }
+    // Where the forest drops no arc, one range solves the network, and the lines of the certificate are accepted.
+    ensures solved { IfOk result (λ c. forest.now.dropped ≡ [] → Solves network.now c.verdict) }
+    ensures one { IfOk result (λ c. forest.now.dropped ≡ [] → length c.nodes ≡ 1) }
+    ensures accepted { IfOk result (λ c. forest.now.dropped ≡ [] → IsAcceptedBytes network.now (cert_bytes c) c.verdict) }
+    ensures filled { IfOk result (λ c. steps.new ≡ steps.old + length c.tables) }
     ensures later { steps.old ≤ steps.new }
     ensures few { steps.new ≤ steps.old + MOST_FILLED }
 {
     let _stages = network.stages().len();
     let order = topological_order(alloc, network)?;
-    let budget = default_budget(network);
     let mut pool = Pool::new(alloc);
     search(alloc, network, forest, &order, budget, &mut pool, steps)
-}
-
-// How many ranges a search may have where the words ask for no number.
-fn default_budget(network: &Network) -> u32
-    ensures { IsDefaultBudget network.now result }
-{
-    budget_of(network, None).unwrap()
 }

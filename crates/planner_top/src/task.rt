@@ -10,14 +10,16 @@ ghost use Rattle.stage_file.specs.Faults.{Reads};
 ghost use Rattle.network_check.specs.Checked.{IsNetworkOf, IsChecked};
 ghost use Rattle.planner_top.specs.Commands.{further_file};
 ghost use Rattle.planner_top.specs.Contents.{AreShort, IsWithin};
-ghost use Rattle.planner_top.specs.Tasks.{files_in, loop_fault, TaskCase, TogetherCase, LastCase};
+ghost use Rattle.planner_top.specs.Requests.{IsRanges};
+ghost use Rattle.planner_top.specs.Tasks.{files_in, loop_fault, shown_fault, TaskCase, TogetherCase, LastCase};
 
+use crate::asked::Terms;
 use crate::command::Command;
 use crate::contents::Contents;
 use crate::files::FILE_LIMIT;
 use crate::not_yet::LOOP_NOT_YET;
 use crate::stop::{Stop, Unsolved, unsolved_by};
-use network_check::{Checked, check_records};
+use network_check::{Checked, budget_of, check_records};
 use service_model::{NoMemory, Plan};
 use stage_file::{
     FileFault, FileKind, Files, RawNet, ReadFault, Rows, Text, raw_net, read_plan, rows_of,
@@ -28,8 +30,8 @@ use tree_order::{Forest, forest_of};
 /// What is to be done.
 #[derive(Drop)]
 pub enum Task {
-    /// The least plan of the network is to be found, over its forest.
-    Solve(Checked, Forest),
+    /// The least plan of the network is to be found, over its forest and with so many ranges at most.
+    Solve(Checked, Forest, u32),
     /// The plan is to be tested against the rules.
     Audit(Checked, Plan),
     /// The bytes of a certificate are to be tested against the rules.
@@ -40,16 +42,18 @@ pub enum Task {
 pub fn task_of(
     alloc: Global,
     command: Command,
+    terms: Terms,
     horizon: u16,
     contents: Contents,
 ) -> Result<Task, Unsolved>
+    requires ranges { IsRanges terms.ranges }
     requires horizon { horizon ≤ MAX_HORIZON }
     requires short { AreShort command contents }
-    ensures { TaskCase command horizon contents result }
+    ensures { TaskCase command terms horizon contents result }
 {
     let files = files_of(alloc, &contents)?;
     match raw_net(alloc, &files, horizon) {
-        Ok(raw) => task_in(alloc, command, &raw, contents.further),
+        Ok(raw) => task_in(alloc, command, terms, &raw, contents.further),
         Err(fault) => Err(unsolved_by(fault)),
     }
 }
@@ -80,14 +84,21 @@ fn rows_in(alloc: Global, bytes: &[u8]) -> Result<Rows, NoMemory>
 }
 
 // What the command does with the network of records, or the first rule on them together or behind that fails.
-fn task_in(alloc: Global, command: Command, raw: &RawNet, further: Text) -> Result<Task, Unsolved>
+fn task_in(
+    alloc: Global,
+    command: Command,
+    terms: Terms,
+    raw: &RawNet,
+    further: Text,
+) -> Result<Task, Unsolved>
+    requires ranges { IsRanges terms.ranges }
     requires horizon { raw.now.horizon ≤ MAX_HORIZON }
     requires read { IsRawNet raw.now }
     requires short { IsWithin (further_file command) further }
-    ensures { TogetherCase command raw.now further result }
+    ensures { TogetherCase command terms raw.now further result }
 {
     match check_records(alloc, raw) {
-        Ok(checked) => last_of(alloc, command, raw, checked, further),
+        Ok(checked) => last_of(alloc, command, terms, raw, checked, further),
         Err(fault) => Err(unsolved_by(fault)),
     }
 }
@@ -96,18 +107,20 @@ fn task_in(alloc: Global, command: Command, raw: &RawNet, further: Text) -> Resu
 fn last_of(
     alloc: Global,
     command: Command,
+    terms: Terms,
     raw: &RawNet,
     checked: Checked,
     further: Text,
 ) -> Result<Task, Unsolved>
+    requires ranges { IsRanges terms.ranges }
     requires read { IsRawNet raw.now }
     requires made { IsNetworkOf raw.now checked }
     requires checked { IsChecked checked }
     requires short { IsWithin (further_file command) further }
-    ensures { LastCase command raw.now further result }
+    ensures { LastCase command terms raw.now further result }
 {
     match command {
-        Command::Solve => solve_task(alloc, raw, checked),
+        Command::Solve => solve_task(alloc, terms, raw, checked),
         Command::Audit => match plan_in(alloc, raw, further.as_slice()) {
             Ok(plan) => Ok(Task::Audit(checked, plan)),
             Err(fault) => Err(unsolved_by(fault)),
@@ -126,20 +139,36 @@ fn plan_in(alloc: Global, raw: &RawNet, further: &[u8]) -> Result<Plan, ReadFaul
     read_plan(alloc, &rows, &raw.stages)
 }
 
-// The least plan is to be found, or the first arc that the forest drops.
-fn solve_task(alloc: Global, raw: &RawNet, checked: Checked) -> Result<Task, Unsolved>
+// The least plan is to be found within a budget, or the first rule that fails: on the budget, or on an arc that the forest drops.
+fn solve_task(alloc: Global, terms: Terms, raw: &RawNet, checked: Checked) -> Result<Task, Unsolved>
+    requires ranges { IsRanges terms.ranges }
     requires made { IsNetworkOf raw.now checked }
     requires checked { IsChecked checked }
-    ensures { LastCase Command.Solve raw.now [] result }
+    ensures { LastCase Command.Solve terms raw.now [] result }
 {
     let forest = forest_of(alloc, &checked.network)?;
-    match loop_fault(raw, forest.dropped.as_slice()) {
-        Some(fault) => Err(Unsolved::Stop(Stop::Refused(fault))),
-        None => Ok(Task::Solve(checked, forest)),
+    match budget_of(&checked.network, terms.ranges) {
+        Ok(budget) => match shown_fault(terms.shown, raw, forest.dropped.as_slice()) {
+            Some(fault) => Err(Unsolved::Stop(Stop::Refused(fault))),
+            None => Ok(Task::Solve(checked, forest, budget)),
+        },
+        Err(fault) => Err(Unsolved::Stop(Stop::Refused(fault))),
     }
 }
 
-// No arc that the forest drops is solved yet.
+// No arc that the forest drops is shown by a certificate yet.
+fn shown_fault(shown: bool, raw: &RawNet, dropped: &[u32]) -> Option<FileFault>
+    requires { All (λ a. a < length raw.now.arcs) dropped.now }
+    ensures { result ≡ shown_fault shown raw.now dropped.now }
+{
+    if shown {
+        loop_fault(raw, dropped)
+    } else {
+        None
+    }
+}
+
+// The first arc that the forest drops.
 fn loop_fault(raw: &RawNet, dropped: &[u32]) -> Option<FileFault>
     requires { All (λ a. a < length raw.now.arcs) dropped.now }
     ensures { result ≡ loop_fault raw.now dropped.now }

@@ -36,7 +36,7 @@ struct Case<'a> {
     text: &'a str,
 }
 
-const CASES: [Case<'static>; 10] = [
+const CASES: [Case<'static>; 9] = [
     Case {
         name: "plain",
         horizon: "horizon=10",
@@ -108,15 +108,6 @@ const CASES: [Case<'static>; 10] = [
         arcs: "supplier,customer,quantity\nA,B,1\n",
         status: Status::Done,
         text: "optimal,10\nstage,inbound,outbound,time,stock,cost\nA,0,3,0,0,0\nB,3,0,5,10,10\nranges,1\nfilled,2\n",
-    },
-    Case {
-        name: "the diamond",
-        horizon: "horizon=2",
-        stages: "stage,lead,supply,least,most,bound,unit\nA,2,,,,a,1\nB,0,,,,b,1\nC,0,,,,c,1\nD,0,,,0,d,1\n",
-        tables: "table,x\na,0,3,7\nb,0,6,6\nc,0,1,1\nd,0,8,8\n",
-        arcs: "supplier,customer,quantity\nA,B,1\nA,C,1\nB,D,1\nC,D,1\n",
-        status: Status::Refused,
-        text: "refused,LoopNotYet,arcs,5,0\n",
     },
     Case {
         name: "a bound by demand",
@@ -227,7 +218,7 @@ fn each_rule_on_files_is_printed_with_its_place(rt: HostRuntime) -> Result<(), F
 #[test]
 fn each_rule_on_words_is_printed_with_its_place(rt: HostRuntime) -> Result<(), Fail> {
     let alloc = rt.alloc();
-    let cases: [(&[&str], &str); 16] = [
+    let cases: [(&[&str], &str); 19] = [
         (&[], "words,W1,0\n"),
         (&["--help"], "words,W2,1\n"),
         (&["solve", "stages=s"], "words,W6,2\n"),
@@ -263,6 +254,9 @@ fn each_rule_on_words_is_printed_with_its_place(rt: HostRuntime) -> Result<(), F
         ),
         (&["solve", "horizon=401"], "words,W7,2\n"),
         (&["solve", "horizon=5.0"], "words,W7,2\n"),
+        (&["solve", "ranges=0"], "words,W7,2\n"),
+        (&["solve", "ranges=10001"], "words,W7,2\n"),
+        (&["audit", "ranges=5"], "words,W4,2\n"),
     ];
     for (all, text) in cases {
         let words = words_of(alloc, all)?;

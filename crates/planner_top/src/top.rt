@@ -87,6 +87,7 @@ fn status_of(ending: Ending) -> Status
     match ending {
         Ending::Done => Status::Done,
         Ending::Infeasible => Status::Infeasible,
+        Ending::Spent => Status::Spent,
         Ending::Words => Status::Words,
         Ending::Refused => Status::Refused,
         Ending::TooLong => Status::TooLong,
