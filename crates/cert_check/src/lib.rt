@@ -19,4 +19,5 @@ pub use check_fault::CheckFault;
 pub use checker::Checker;
 pub use laws::{not_both_law, refusal_one_law, verdict_one_law, written_law};
 pub use not_yet::SPLIT_NOT_YET;
+pub use table_rules::{Scratch, local_holds};
 pub use written::check;

@@ -3,7 +3,7 @@ use Rattle.std.proofs.Common.{◌≡◌, ◌⊎◌, Option, Some, None, refl, sy
 use Rattle.gsm_outside.specs.Causes.{Rose}
 use Rattle.planner_top.specs.Asked.{cert_name}
 use Rattle.planner_top.specs.Certificates.{KeepsOthers}
-use Rattle.planner_top.specs.Runs.{Run, IsLater, Answered, IsUnwritten, status_of, StatusCase}
+use Rattle.planner_top.specs.Runs.{Run, IsLater, Answered, status_of, StatusCase, FailedWrite}
 use Rattle.planner_top.specs.Headline.{Exactly, IsSure, Headline}
 use Rattle.planner_top.specs.declared.answer.Ending.{Ending}
 use Rattle.planner_top.specs.declared.answer.Ending.TheVariants as ending
@@ -75,9 +75,9 @@ answered_headline r e kept same answered = record {
   no_memory = λ also. absurd (other_ending status.NoMemory e refl (sym same ∙ also));
 }
 
-unsure_write : (r : Run) → IsSure r → Rose r.faults r.faults_after ⊎ IsUnwritten r → ⊥
+unsure_write : (r : Run) → IsSure r → FailedWrite r → ⊥
 unsure_write r sure (inl rose) = sure.puts rose
-unsure_write r sure (inr unwritten) = sure.writes unwritten.rose
+unsure_write r sure (inr told) = sure.writes told.0.rose
 
 -- what each status says makes up the promise
 headline_by : (r : Run) (s : Status) → IsKept r → r.status ≡ s → StatusCase r s → Headline r

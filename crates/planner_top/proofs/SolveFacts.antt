@@ -15,7 +15,7 @@ use Rattle.range_branch.specs.Solutions.{Solves}
 use Rattle.network_check.specs.declared.checked.Checked.{Checked}
 use Rattle.cert_check.specs.Bytes.{IsAcceptedBytes}
 use Rattle.planner_top.specs.Texts.{solution_rows}
-use Rattle.planner_top.specs.Certificates.{cert_bytes, bytes_in, IsShown}
+use Rattle.planner_top.specs.Certificates.{cert_bytes, bytes_in}
 use Rattle.planner_top.specs.Answers.{IsSolution, ending_by}
 use Rattle.planner_top.specs.declared.answer.Answer.{Answer}
 
@@ -56,5 +56,6 @@ solution_shown (Ok a) c f budget filled x is ending rows cert = record {
   full = is.full;
   solved = is.solved;
   one = is.one;
-  shown = λ tree. subst (λ (y : Option Cert). IsShown c.network (bytes_in y) x.verdict) (sym cert) (is.accepted tree);
+  cert_is = ap bytes_in cert;
+  accepted = is.accepted;
 }

@@ -72,7 +72,9 @@ given_case r e rows cert filled s reads ticks answer case = from s case
 
     from : (s : Status) → GivenCase (given_in r e rows cert) s → StatusCase r s
     from status.WriteFault (inl puts) = (fronts_later r e rows cert found puts.0, inl puts.1, prints_front r e rows cert found puts.0)
-    from status.WriteFault (inr tells) = (later_by r rows cert found tells.later tells.faults, inr (unwritten r e rows cert found tells), tells_front r e rows cert found tells)
+    from status.WriteFault (inr (tells, inl rose)) = (later_by r rows cert found tells.later tells.faults, inl rose, tells_front r e rows cert found tells)
+    from status.WriteFault (inr (tells, inr told)) =
+        (later_by r rows cert found tells.later tells.faults, inr (unwritten r e rows cert found tells, told), tells_front r e rows cert found tells)
     from status.NoMemory (inl puts) = (fronts_later r e rows cert found puts, inr (inr (prints_front r e rows cert found puts)))
     from status.NoMemory (inr (inl tells)) = (later_by r rows cert found tells.later tells.faults, inr (inr (tells_front r e rows cert found tells)))
     from status.NoMemory (inr (inr part)) =

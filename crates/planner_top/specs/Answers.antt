@@ -19,7 +19,7 @@ use Rattle.planner_top.specs.Asked.{Asked, asked_of, terms_of}
 use Rattle.planner_top.specs.Contents.{too_long_of, contents_of}
 use Rattle.planner_top.specs.Tasks.{IsTask}
 use Rattle.planner_top.specs.Texts.{solution_rows, audit_rows, broken_row, valid_row, not_accepted_row, stop_row}
-use Rattle.planner_top.specs.Certificates.{IsShown}
+use Rattle.planner_top.specs.Certificates.{cert_bytes}
 use Rattle.planner_top.specs.declared.filled.TheConstants.{MOST_FILLED}
 use Rattle.planner_top.specs.declared.command.Command.{Command}
 use Rattle.planner_top.specs.declared.command.Command.TheVariants as command
@@ -67,10 +67,12 @@ pub record IsSolution (e : Ending) (rows : List (List (List ℕ))) (filled : ℕ
   pub filled_is : filled ≡ length search.tables
   -- the budget is spent only where two further ranges would pass it
   pub full : search.verdict.outcome ≡ outcome.Spent → budget < length search.nodes + 2
-  -- where the forest drops no arc, one range solves the network, and the bytes of the certificate are accepted with the verdict
+  -- the certificate that is made is this one, with the budget in its head
+  pub cert_is : cert ≡ Some (cert_bytes search)
+  -- where the forest drops no arc, one range solves the network, and the certificate's bytes are accepted with the verdict
   pub solved : f.dropped ≡ [] → Solves c.network search.verdict
   pub one : f.dropped ≡ [] → length search.nodes ≡ 1
-  pub shown : f.dropped ≡ [] → IsShown c.network cert search.verdict
+  pub accepted : f.dropped ≡ [] → IsAcceptedBytes c.network (cert_bytes search) search.verdict
 
 -- the audit of a plan, with its lines: it is feasible, or the first rule that it breaks
 abbrev pub IsAudit : Ending → List (List (List ℕ)) → Checked → Plan → Type 0

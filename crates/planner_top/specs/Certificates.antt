@@ -1,12 +1,9 @@
 -- Certificates of answers, as bytes on a shelf.
-use Rattle.std.specs.Prelude.{◌≡◌, ◌⊎◌, ℕ, List, ◌++◌, flat_map, Option, Some, None, option_map, IsSomeAnd}
-use Rattle.service_model.specs.declared.cert.Verdict.{Verdict}
+use Rattle.std.specs.Prelude.{◌≡◌, ◌⊎◌, ℕ, List, ◌++◌, flat_map, Option, Some, None, option_map}
 use Rattle.service_model.specs.declared.cert.Cert.{Cert}
-use Rattle.service_model.specs.Net.{Net}
 use Rattle.service_model.specs.Items.{items_of}
 use Rattle.gsm_outside.specs.Held.{Held, put_in}
 use Rattle.bound_cert.specs.Lines.{line_of}
-use Rattle.cert_check.specs.Bytes.{IsAcceptedBytes}
 
 -- the lines of a certificate, one after another
 unfoldable pub cert_bytes : Cert → List ℕ
@@ -14,10 +11,6 @@ cert_bytes c = flat_map line_of (items_of c)
 
 abbrev pub bytes_in : Option Cert → Option (List ℕ)
 bytes_in cert = option_map cert_bytes cert
-
--- there are bytes which are an accepted certificate of the verdict
-abbrev pub IsShown : Net → Option (List ℕ) → Verdict → Type 0
-IsShown n cert v = IsSomeAnd cert (λ bytes. IsAcceptedBytes n bytes v)
 
 -- what a shelf holds, where it tells, once a certificate was written under the name that is asked for; as before where none is
 -- asked for or there is none

@@ -16,7 +16,7 @@ use Rattle.cert_check.specs.Bytes.{IsAcceptedBytes, IsRefusedBytes}
 use Rattle.planner_top.specs.Answers.{IsProblem}
 use Rattle.planner_top.specs.Asked.{cert_name}
 use Rattle.planner_top.specs.Certificates.{KeepsOthers}
-use Rattle.planner_top.specs.Runs.{Run, IsLater, Answered, FailedRead, IsUnwritten, PrintsFront, IsLeft, status_of}
+use Rattle.planner_top.specs.Runs.{Run, IsLater, Answered, FailedRead, PrintsFront, IsLeft, status_of, FailedWrite}
 use Rattle.planner_top.specs.declared.task.Task.{Task}
 use Rattle.planner_top.specs.declared.task.Task.TheVariants as task
 use Rattle.planner_top.specs.declared.word_fault.WordFault.{WordFault}
@@ -93,8 +93,8 @@ pub record Headline (r : Run) : Type 0 where
   pub answer : (e : Ending) → r.status ≡ status_of e → Answered r e
   -- and it comes exactly where its cause is, on a shelf that tells what it holds
   pub exact : (e : Ending) (m : Held) → r.status ≡ status_of e → r.held ≡ Some m → Exactly r.words m e
-  -- a read fault comes only where a read failed, a write fault only where a write of the certificate or of the output failed; what each
-  -- leaves
+  -- a read fault comes only where a read failed, a write fault only where a write of the certificate, which the line says, or of the
+  -- output failed; what each leaves
   pub read_fault : r.status ≡ status.ReadFault → FailedRead r
-  pub write_fault : r.status ≡ status.WriteFault → (Rose r.faults r.faults_after ⊎ IsUnwritten r) × PrintsFront r
+  pub write_fault : r.status ≡ status.WriteFault → FailedWrite r × PrintsFront r
   pub no_memory : r.status ≡ status.NoMemory → IsLeft r

@@ -157,6 +157,14 @@ pub record IsLater (r : Run) : Type 0 where
   pub ticks : r.ticks ≤ r.ticks_after
   pub few : r.ticks_after ≤ r.ticks + MOST_FILLED
 
+-- the whole line that a certificate could not be written follows what was written
+abbrev pub IsTold : Option (List ℕ) → Option (List ℕ) → ℕ → ℕ → Type 0
+IsTold before after faults faulted = (faulted ≡ faults) × Follows before (lines_of (write_fault_row ∷ [])) after
+
+-- a write failed: one of the output, or one of the certificate, which the line then says
+abbrev pub FailedWrite : Run → Type 0
+FailedWrite r = Rose r.faults r.faults_after ⊎ (IsUnwritten r × IsTold r.written r.written_after r.faults r.faults_after)
+
 -- what a status says of a run
 abbrev pub StatusCase : Run → Status → Type 0
 StatusCase r status.Done = Answered r ending.Done
@@ -168,7 +176,7 @@ StatusCase r status.TooLong = Answered r ending.TooLong
 StatusCase r status.NotAccepted = Answered r ending.NotAccepted
 StatusCase r status.NotFeasible = Answered r ending.NotFeasible
 StatusCase r status.ReadFault = (r.reads ≤ r.reads_after) × FailedRead r
-StatusCase r status.WriteFault = IsLater r × (Rose r.faults r.faults_after ⊎ IsUnwritten r) × PrintsFront r
+StatusCase r status.WriteFault = IsLater r × FailedWrite r × PrintsFront r
 StatusCase r status.NoMemory = IsLater r × IsLeft r
 
 -- what the status of a run whose read failed says of its output
@@ -243,12 +251,15 @@ pub record PutsAll (g : Given) : Type 0 where
 
 -- what the status of an answer that is given says
 abbrev pub GivenCase : Given → Status → Type 0
-GivenCase g status.WriteFault = (PutsFront g × Rose g.faults g.faults_after) ⊎ TellsFront g
+GivenCase g status.WriteFault =
+    (PutsFront g × Rose g.faults g.faults_after)
+    ⊎ (TellsFront g × (Rose g.faults g.faults_after ⊎ IsTold g.written g.written_after g.faults g.faults_after))
 GivenCase g status.NoMemory = PutsFront g ⊎ TellsFront g ⊎ PutsPart g
 GivenCase g s = (s ≡ status_of g.ending) × PutsAll g
 
 -- what the status says of a run that could not write its certificate, by what was printed
 abbrev pub ToldCase : Option (List ℕ) → Option (List ℕ) → ℕ → ℕ → Status → Type 0
-ToldCase before after faults faulted status.WriteFault = (faults ≤ faulted) × PartFollows before (lines_of (write_fault_row ∷ [])) after
+ToldCase before after faults faulted status.WriteFault =
+    (faults ≤ faulted) × PartFollows before (lines_of (write_fault_row ∷ [])) after × (Rose faults faulted ⊎ IsTold before after faults faulted)
 ToldCase before after faults faulted status.NoMemory = (faults ≤ faulted) × PartFollows before (lines_of (write_fault_row ∷ [])) after
 ToldCase before after faults faulted _ = ⊥

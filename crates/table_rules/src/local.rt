@@ -6,7 +6,7 @@ ghost use Rattle.table_rules.specs.Shapes.{AreShaped};
 
 use crate::columns::columns_hold;
 use crate::sums::{write_down_sums, write_up_sums};
-use service_model::{MAX_TIME, Network, NoMemory, Table};
+use service_model::{Network, NoMemory, Table};
 use std::alloc::Global;
 use std::marker::Model;
 
@@ -31,7 +31,6 @@ impl Model for Scratch {
 impl Scratch {
     /// Room for each time from 0 to the horizon.
     pub fn new(alloc: Global, horizon: u16) -> Result<Scratch, NoMemory>
-        requires { horizon ≤ MAX_TIME }
         ensures { IfOk result (λ scratch. scratch ≡ horizon) }
     {
         let times = horizon as usize + 1;
