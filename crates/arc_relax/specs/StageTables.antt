@@ -34,6 +34,15 @@ pub record IsWantedOf (n : Net) (r : Range) (f : Forest) (numbers : List ℕ) (j
   pub floor : w.floor ≡ floor_of n r j
   pub children : w.children.items ≡ map (λ c. slice_index numbers c) (slice_index_or f.children j [])
 
+-- stage i stands before stage j in the order
+abbrev pub StandsBefore : List ℕ → ℕ → ℕ → Type 0
+StandsBefore order i j = (k : ℕ) × (m : ℕ) × (k < m) × (m < length order) × (slice_index order k ≡ i) × (slice_index order m ≡ j)
+
+-- the tables from one number up to another stand in the order of their stages
+abbrev pub StandInOrder : List ℕ → List Table → ℕ → ℕ → Type 0
+StandInOrder order tables from to =
+    (i k : ℕ) → from ≤ i → i < k → k < to → StandsBefore order (table_at tables i).stage (table_at tables k).stage
+
 -- the pool has more tables at its end
 abbrev pub IsLonger : List Table → List Table → Type 0
 IsLonger old new = (more : List Table) × (new ≡ old ++ more)

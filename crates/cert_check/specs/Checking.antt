@@ -5,7 +5,8 @@ use Rattle.service_model.specs.declared.taker.TakeStop.{TakeStop}
 use Rattle.service_model.specs.declared.taker.TakeStop.TheVariants.{Stopped, NoMemory}
 use Rattle.service_model.specs.Net.{Net}
 use Rattle.service_model.specs.Held.{Held, none_held, held_with, held_after}
-use Rattle.cert_check.specs.Faults.{IsFirstFault, IsPassed, IsChecked}
+use Rattle.service_model.specs.CertRules.{Keeps}
+use Rattle.service_model.specs.Certs.{IsFirstBroken, AllKeep}
 
 -- the network, what came of the certificate, the first rule that failed, and how many takes were refused
 pub record Checking : Type 0 where
@@ -18,21 +19,21 @@ pub record Checking : Type 0 where
 abbrev pub new_checking : Net → Checking
 new_checking n = record { network = n; held = none_held; fault = None; stops = 0 }
 
--- all these items came, and passed
+-- all these items came, and no rule fails on any
 pub record StandsFor (c : Checking) (items : List Item) : Type 0 where
   pub came : c.held ≡ held_after none_held items
-  pub checked : IsChecked c.network items
+  pub keep : AllKeep c.network none_held items
 
 -- a rule fails on the item, and is the one that is kept
 pub record Refuses (c : Checking) (x : Item) : Type 0 where
   pub rule : ℕ
   pub kept : c.fault ≡ Some rule
-  pub first : IsFirstFault c.network c.held x rule
+  pub first : IsFirstBroken c.network c.held x rule
 
--- the item passes, and is behind those that came
+-- no rule fails on the item, and it is behind those that came
 pub record IsTaken (old new : Checking) (x : Item) : Type 0 where
   pub unfailed : old.fault ≡ None
-  pub passed : IsPassed old.network old.held x
+  pub keeps : Keeps old.network old.held x
   pub more : new ≡ record old { held = held_with old.held x }
 
 -- a take is refused: nothing came, and one more stop is counted

@@ -1,5 +1,5 @@
 -- The laws of checks.
-use Rattle.std.specs.Prelude.{◌≡◌, ℕ, List, [], All, flat_map}
+use Rattle.std.specs.Prelude.{◌≡◌, ℕ, List, All, flat_map}
 use Rattle.service_model.specs.declared.cert.Verdict.{Verdict}
 use Rattle.service_model.specs.declared.cert.Cert.{Cert}
 use Rattle.service_model.specs.Net.{Net}
@@ -24,7 +24,7 @@ RefusalOneLaw = (n : Net) (bytes : List ℕ) (line rule line' rule' : ℕ) → I
 abbrev pub NotBothLaw : Type 0
 NotBothLaw = (n : Net) (bytes : List ℕ) (v : Verdict) (line rule : ℕ) → IsAcceptedBytes n bytes v → ¬ IsRefusedBytes n bytes line rule
 
--- the lines of a certificate without splits on which no rule fails, whoever wrote it, are accepted with its verdict
+-- the lines of a certificate on which no rule fails, whoever wrote it, are accepted with its verdict
 abbrev pub WrittenLaw : Type 0
-WrittenLaw = (n : Net) (c : Cert) → AllKeep n none_held (items_of c) → c.splits ≡ [] → AllInOrder none_held (items_of c) → All IsShort (items_of c)
+WrittenLaw = (n : Net) (c : Cert) → AllKeep n none_held (items_of c) → AllInOrder none_held (items_of c) → All IsShort (items_of c)
     → IsAcceptedBytes n (flat_map line_of (items_of c)) c.verdict

@@ -11,7 +11,7 @@ use Rattle.service_model.specs.Held.{Held, none_held, held_after}
 use Rattle.bound_cert.specs.Laws.{IsShort}
 use Rattle.cert_check.specs.declared.check_fault.CheckFault.{CheckFault}
 use Rattle.cert_check.specs.declared.check_fault.CheckFault.TheVariants.{Fault, NoMemory}
-use Rattle.cert_check.specs.Faults.{IsFirstFault, IsChecked}
+use Rattle.service_model.specs.Certs.{IsFirstBroken, AllKeep}
 
 -- the item's line is too long
 pub record IsLong (x : Item) (rule : ℕ) : Type 0 where
@@ -21,7 +21,7 @@ pub record IsLong (x : Item) (rule : ℕ) : Type 0 where
 -- the item's line is short, and the rule is the first that fails on the item
 pub record IsShortFault (n : Net) (h : Held) (x : Item) (rule : ℕ) : Type 0 where
   pub short : IsShort x
-  pub fault : IsFirstFault n h x rule
+  pub broken : IsFirstBroken n h x rule
 
 -- the rule is the first that fails on the item's line
 abbrev pub IsFirstLineFault : Net → Held → Item → ℕ → Type 0
@@ -29,7 +29,7 @@ IsFirstLineFault n h x rule = IsLong x rule ⊎ IsShortFault n h x rule
 
 -- no rule fails on the certificate's lines, and the verdict is its own
 pub record IsAcceptedCert (n : Net) (c : Cert) (v : Verdict) : Type 0 where
-  pub checked : IsChecked n (items_of c)
+  pub keep : AllKeep n none_held (items_of c)
   pub short : All IsShort (items_of c)
   pub verdict : v ≡ c.verdict
 
@@ -39,7 +39,7 @@ pub record IsRefusedLine (n : Net) (items : List Item) (line rule : ℕ) : Type 
   pub item : Item
   pub rest : List Item
   pub parts : items ≡ front ++ item ∷ rest
-  pub checked : IsChecked n front
+  pub keep : AllKeep n none_held front
   pub short : All IsShort front
   pub fault : IsFirstLineFault n (held_after none_held front) item rule
   pub place : line ≡ length front + 1

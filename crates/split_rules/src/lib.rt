@@ -1,0 +1,10 @@
+//! The checker's rules on splits: which leaf is split next, whether its nodes earned the split, and the halves of its range.
+#![tactic(auto)]
+
+mod faults;
+mod halves;
+mod leaves;
+
+pub use faults::{Next, split_fault};
+pub use halves::{Halves, halves_of};
+pub use leaves::{Leaf, Leaves};
