@@ -36,8 +36,8 @@ pub fn split_fault(
     requires times { IfSome next.node.now.relaxed (HasTimes network.now) }
     requires range { HasIntervals network.now next.range.now }
     requires found { IfSome found.now (Feasible network.now) }
-    ensures first { (h : Held) → h.tables ≡ tables.now → IsNext network.now h next.leaf.node → bound_at h next.leaf.node ≡ next.leaf.bound
-        → node_at h.nodes next.leaf.node ≡ next.node.now → range_of network.now h next.leaf.node ≡ next.range.now
+    ensures first { (h : Held) → h.tables ≡ tables.now → IsNext network.now h next.entry.leaf.node → bound_at h next.entry.leaf.node ≡ next.entry.leaf.bound
+        → node_at h.nodes next.entry.leaf.node ≡ next.entry.node.now → range_of network.now h next.entry.leaf.node ≡ next.entry.range.now
         → Found network.now (relaxed_of h) found.now → IfOk result (IsFirstOf (SplitRule network.now h split)) }
 {
     Err(NoMemory)

@@ -1,0 +1,2 @@
+mod LeafFacts
+mod NextFacts
