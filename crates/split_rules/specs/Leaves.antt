@@ -1,5 +1,5 @@
 -- The leaves of a certificate's nodes so far, and the one that is split next.
-use Rattle.std.specs.Prelude.{◌≡◌, ◌≢◌, ◌⊎◌, ◌↔◌, ℕ, ◌+◌, ◌*◌, ◌<◌, List, length, All, Contains}
+use Rattle.std.specs.Prelude.{◌≡◌, ◌≢◌, ◌⊎◌, ◌↔◌, ◌+◌, ◌*◌, ◌<◌, List, length, All, Contains}
 use Rattle.service_model.specs.Net.{Net}
 use Rattle.service_model.specs.Verdicts.{IsLeastBound}
 use Rattle.service_model.specs.Held.{Held, cuts_of, roots_of, bound_at}

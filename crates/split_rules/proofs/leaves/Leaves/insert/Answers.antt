@@ -1,4 +1,4 @@
-use Rattle.std.proofs.Common.{◌≡◌, true, Ordering, inl, inr, ⊎_elim, sym, ◌∙◌, subst}
+use Rattle.std.proofs.Common.{◌≡◌, inl, inr, ⊎_elim, sym, ◌∙◌, subst}
 use Rattle.std.specs.Prelude.{Contains}
 use Rattle.std.proofs.lemmas.Map.Views.{btree_set_contains_iff}
 use Rattle.split_rules.proofs.LeafFacts.{leaf_total, leaf_exact, same_or_not, differs}
