@@ -2,11 +2,10 @@
 ghost use Rattle.std.specs.Prelude.{◌≡◌, ◌≢◌, ◌+◌, ◌*◌, ◌≤◌, ◌^◌, [], IfOk, OnOk, OnErr, length};
 ghost use Rattle.service_model.specs.Orders.{IsTopological};
 ghost use Rattle.service_model.specs.Verdicts.{IsTrueOf};
-ghost use Rattle.service_model.specs.Held.{node_at};
 ghost use Rattle.tree_order.specs.Forest.{IsForest};
 ghost use Rattle.range_branch.specs.Solutions.{Solves};
 ghost use Rattle.range_branch.specs.Sizes.{IsShortCert};
-ghost use Rattle.range_branch.specs.Own.{IsOwn};
+ghost use Rattle.search_laws.specs.Own.{IsOwn};
 ghost use Rattle.range_branch.specs.Progress.{IsGiven};
 ghost use Rattle.range_branch.specs.Steps.{IsSearched};
 
@@ -80,9 +79,9 @@ pub fn search<L>(
     ensures own { IfOk result (IsOwn network.now forest.now budget) }
     ensures true_verdict { IfOk result (λ c. IsTrueOf network.now c.verdict) }
     ensures short { IfOk result (IsShortCert network.now) }
-    // Where the forest drops no arc, one node solves the network.
+    // Where the forest drops no arc, one node solves the network, with one table for each stage.
     ensures one { IfOk result (λ c. forest.now.dropped ≡ [] → (length c.nodes ≡ 1) × (c.splits ≡ [])) }
-    ensures seen { IfOk result (λ c. forest.now.dropped ≡ [] → (node_at c.nodes 0).seen ≡ length c.tables) }
+    ensures stages { IfOk result (λ c. forest.now.dropped ≡ [] → length c.tables ≡ length network.now.stages) }
     ensures solved { IfOk result (λ c. forest.now.dropped ≡ [] → Solves network.now c.verdict) }
     ensures pool { IfOk result (λ c. pool.new ≡ c.tables) }
     ensures emptied { OnErr result (pool.new ≡ []) }

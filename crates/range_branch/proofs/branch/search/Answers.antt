@@ -1,4 +1,4 @@
-use Rattle.range_branch.proofs.EndedFacts.{ended_own, ended_true, ended_short, ended_one, ended_solves}
+use Rattle.range_branch.proofs.EndedFacts.{ended_own, ended_true, ended_short, ended_one, ended_stages, ended_solves}
 use Rattle.range_branch.proofs.branch.search.Goals as goal
 
 pub searched-requires-clause-given : goal.searched-requires-clause-given
@@ -22,13 +22,10 @@ returns-in-Ok-clause-short g c =
     ended_short c.args.network.now c.args.forest.now c.args.budget c.searched.new.pool c.in-Ok.cert c.requires.forest c.in-Ok.ensures.cert
 
 pub returns-in-Ok-clause-one : goal.returns-in-Ok-clause-one
-returns-in-Ok-clause-one g c = λ tree.
-    let one = ended_one c.args.network.now c.args.forest.now c.args.budget c.searched.new.pool c.in-Ok.cert c.in-Ok.ensures.cert tree in
-    (one.0, one.1)
+returns-in-Ok-clause-one g c = ended_one c.args.network.now c.args.forest.now c.args.budget c.searched.new.pool c.in-Ok.cert c.in-Ok.ensures.cert
 
-pub returns-in-Ok-clause-seen : goal.returns-in-Ok-clause-seen
-returns-in-Ok-clause-seen g c = λ tree.
-    (ended_one c.args.network.now c.args.forest.now c.args.budget c.searched.new.pool c.in-Ok.cert c.in-Ok.ensures.cert tree).2
+pub returns-in-Ok-clause-stages : goal.returns-in-Ok-clause-stages
+returns-in-Ok-clause-stages g c = ended_stages c.args.network.now c.args.forest.now c.args.budget c.searched.new.pool c.in-Ok.cert c.in-Ok.ensures.cert
 
 pub returns-in-Ok-clause-solved : goal.returns-in-Ok-clause-solved
 returns-in-Ok-clause-solved g c =
