@@ -1,11 +1,13 @@
 // The search over ranges.
-ghost use Rattle.std.specs.Prelude.{◌≡◌, ◌≢◌, ◌+◌, ◌*◌, ◌≤◌, ◌^◌, [], IfOk, OnOk, OnErr, length};
+ghost use Rattle.std.specs.Prelude.{◌≡◌, ◌≢◌, ◌+◌, ◌*◌, ◌<◌, ◌≤◌, ◌^◌, [], IfOk, OnOk, OnErr, length};
 ghost use Rattle.service_model.specs.Orders.{IsTopological};
+ghost use Rattle.service_model.specs.declared.cert.Outcome.TheVariants.{Spent};
 ghost use Rattle.service_model.specs.Verdicts.{IsTrueOf};
 ghost use Rattle.tree_order.specs.Forest.{IsForest};
 ghost use Rattle.range_branch.specs.Solutions.{Solves};
 ghost use Rattle.range_branch.specs.Sizes.{IsShortCert};
 ghost use Rattle.search_laws.specs.Own.{IsOwn};
+ghost use Rattle.search_laws.specs.Enough.{enough_of};
 ghost use Rattle.range_branch.specs.Progress.{IsGiven};
 ghost use Rattle.range_branch.specs.Steps.{IsSearched};
 
@@ -83,6 +85,9 @@ pub fn search<L>(
     ensures one { IfOk result (λ c. forest.now.dropped ≡ [] → (length c.nodes ≡ 1) × (c.splits ≡ [])) }
     ensures stages { IfOk result (λ c. forest.now.dropped ≡ [] → length c.tables ≡ length network.now.stages) }
     ensures solved { IfOk result (λ c. forest.now.dropped ≡ [] → Solves network.now c.verdict) }
+    // Whatever the budget is, there are no more nodes than are enough, and a budget that is enough is never spent.
+    ensures nodes { IfOk result (λ c. length c.nodes ≤ enough_of network.now forest.now) }
+    ensures spent { IfOk result (λ c. c.verdict.outcome ≡ Spent → budget < enough_of network.now forest.now) }
     ensures pool { IfOk result (λ c. pool.new ≡ c.tables) }
     ensures emptied { OnErr result (pool.new ≡ []) }
     ensures filled { IfOk result (λ c. steps.new ≡ steps.old + length c.tables) }

@@ -1,3 +1,4 @@
+use Rattle.search_laws.proofs.OwnFacts.{own_few, own_spent}
 use Rattle.range_branch.proofs.EndedFacts.{ended_own, ended_true, ended_short, ended_one, ended_stages, ended_solves}
 use Rattle.range_branch.proofs.branch.search.Goals as goal
 
@@ -30,3 +31,17 @@ returns-in-Ok-clause-stages g c = ended_stages c.args.network.now c.args.forest.
 pub returns-in-Ok-clause-solved : goal.returns-in-Ok-clause-solved
 returns-in-Ok-clause-solved g c =
     ended_solves c.args.network.now c.args.forest.now c.args.budget c.searched.new.pool c.in-Ok.cert c.horizon-horizon.ensures.valid c.requires.forest c.in-Ok.ensures.cert
+
+pub returns-in-Ok-clause-nodes : goal.returns-in-Ok-clause-nodes
+returns-in-Ok-clause-nodes g c =
+    let n = c.args.network.now in
+    let f = c.args.forest.now in
+    let valid = c.horizon-horizon.ensures.valid in
+    own_few n f c.args.budget c.in-Ok.cert valid c.requires.forest (ended_own n f c.args.budget c.searched.new.pool c.in-Ok.cert valid c.in-Ok.ensures.cert)
+
+pub returns-in-Ok-clause-spent : goal.returns-in-Ok-clause-spent
+returns-in-Ok-clause-spent g c =
+    let n = c.args.network.now in
+    let f = c.args.forest.now in
+    let valid = c.horizon-horizon.ensures.valid in
+    own_spent n f c.args.budget c.in-Ok.cert valid c.requires.forest (ended_own n f c.args.budget c.searched.new.pool c.in-Ok.cert valid c.in-Ok.ensures.cert)
