@@ -1,1 +1,2 @@
 mod PoolFacts
+mod SignatureFacts

@@ -2,6 +2,8 @@
 #![tactic(auto)]
 
 mod pool;
+mod signature;
+mod signatures;
 #[cfg(test)]
 mod tests;
 

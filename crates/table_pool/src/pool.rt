@@ -1,9 +1,11 @@
 // The tables that were filled, which contracts see as a list of tables.
-ghost use Rattle.std.specs.Prelude.{◌≡◌, ℕ, ◌+◌, ◌<◌, ◌≤◌, ◌^◌, ◌++◌, ◌∷◌, [], ◌↔◌, length, IsTrue, IfOk, IfErr, OnOk, OnErr, MatchOption};
+ghost use Rattle.std.specs.Prelude.{◌≡◌, ◌+◌, ◌<◌, ◌^◌, [], length, IfOk, OnErr};
 ghost use Rattle.service_model.specs.Tables.{table_at};
-ghost use Rattle.tree_tables.specs.Fills.{IsWanted, IsAsWanted};
+ghost use Rattle.tree_tables.specs.Fills.{IsWanted};
 
-use service_model::{List, Network, NoMemory, Table};
+use crate::signature::Signature;
+use crate::signatures::Signatures;
+use service_model::{Network, NoMemory, Table};
 use std::alloc::Global;
 use std::marker::Model;
 use step_ledger::Steps;
@@ -13,16 +15,21 @@ use tree_tables::{Filled, Wanted, fill};
 #[derive(Drop)]
 pub struct Pool {
     alloc: Global,
-    made: List<Filled>,
+    made: Vec<Filled>,
+    // The signature of each table, at the table's number.
+    signatures: Signatures,
 }
 
 impl Model for Pool {
-    ghost use Rattle.std.specs.Prelude.{List};
+    ghost use Rattle.std.specs.Prelude.{◌≡◌, List, map};
     ghost use Rattle.service_model.specs.declared.table.Table.{Table};
+    ghost use Rattle.table_pool.specs.Signatures.{unvalued};
 
     ghost Value = { List Table };
 
-    ghost view = { λ pool. pool.made };
+    ghost view = { λ pool. pool.made.items };
+
+    ghost invariant = { λ pool. pool.signatures ≡ map unvalued pool.made.items };
 }
 
 impl Pool {
@@ -36,7 +43,8 @@ impl Pool {
     {
         Pool {
             alloc,
-            made: List::new(alloc),
+            made: Vec::new(alloc),
+            signatures: Signatures::new(alloc),
         }
     }
 
@@ -52,7 +60,7 @@ impl Pool {
         requires { id < length self.now }
         ensures { result.now ≡ table_at self.now id }
     {
-        self.made.get(id as usize).table()
+        self.made[id as usize].table()
     }
 
     /// Gives all tables up.
@@ -60,7 +68,8 @@ impl Pool {
         ensures empty { self.new ≡ [] }
         ensures serves { (n : Net) → IsPool n self.new }
     {
-        self.made = List::new(self.alloc);
+        self.made = Vec::new(self.alloc);
+        self.signatures = Signatures::new(self.alloc);
     }
 
     /// The number of the wanted table, which is filled, and comes to the end, only where the pool does not hold it.
@@ -77,39 +86,16 @@ impl Pool {
         ensures ok { IfOk result (IsFoundOrFilled network.now self.old self.new wanted.now steps.old steps.new) }
         ensures err { OnErr result (IsUnchanged self.old self.new steps.old steps.new) }
     {
-        if let Some(id) = find(self.filled(), wanted) {
-            return Ok(id);
+        let signature = Signature::of(self.alloc, wanted)?;
+        if let Some(id) = self.signatures.place_of(&signature) {
+            return Ok(id as u32);
         }
-        let id = self.made.len() as u32;
-        let table = fill(self.alloc, network, wanted, self.filled(), steps)?;
-        self.made.push(table)?;
+        let made = self.filled();
+        let id = made.len() as u32;
+        let table = fill(self.alloc, network, wanted, made, steps)?;
+        self.made.reserve(1)?;
+        self.signatures.push(signature)?;
+        self.made.push_reserved(table);
         Ok(id)
     }
-}
-
-// Whether the table is the wanted one. Most tables are of another stage, which is compared first.
-fn is_wanted(table: &Table, wanted: &Wanted) -> bool
-    ensures { IsTrue result ↔ IsAsWanted wanted.now table.now }
-{
-    table.stage == wanted.stage
-        && table.kind == wanted.kind
-        && table.least == wanted.least
-        && table.most == wanted.most
-        && table.floor == wanted.floor
-        && table.children.as_slice() == wanted.children.as_slice()
-}
-
-// The number of the wanted table, looked for from the last table on: what is wanted again was often wanted lately.
-fn find(made: &[Filled], wanted: &Wanted) -> Option<u32>
-    requires { length made.now < 2 ^ 32 }
-    ensures { MatchOption result
-        ((i : ℕ) → i < length made.now → IsAsWanted wanted.now (table_at made.now i) → ⊥)
-        (λ i. (i < length made.now) × IsAsWanted wanted.now (table_at made.now i)) }
-{
-    'tables: for i in (0..made.len()).rev() {
-        if is_wanted(made[i].table(), wanted) {
-            return Some(i as u32);
-        }
-    }
-    None
 }
