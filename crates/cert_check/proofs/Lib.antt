@@ -1,5 +1,6 @@
 mod PlaceFacts
-mod NodeFacts
+mod LeavesFacts
+mod RangesFacts
 mod KeepFacts
 mod TakeFacts
 mod WholeFacts
