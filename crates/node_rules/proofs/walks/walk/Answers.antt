@@ -1,7 +1,7 @@
 use Rattle.std.proofs.Common.{◌++◌, List, ℕ, false, get_or, length, replicate, reverse, sym, ap, ◌∙◌}
 use Rattle.service_model.specs.declared.table.Table.{Table}
 use Rattle.node_rules.proofs.WalkFacts.{walk_start, walk_there, walk_twice, walk_more}
-use Rattle.node_rules.proofs.walk.walk.Goals as goal
+use Rattle.node_rules.proofs.walks.walk.Goals as goal
 
 pub tables-init : goal.tables-init
 tables-init c =

@@ -2,7 +2,7 @@
 use Rattle.std.proofs.Common.{not}
 use Rattle.std.specs.Prelude.{count_by}
 use Rattle.node_rules.proofs.WalkFacts.{Walked}
-use Rattle.node_rules.proofs.walk.walk.Given as goal
+use Rattle.node_rules.proofs.walks.walk.Given as goal
 
 abbrev pub invariant-tables : goal.invariant-tables
 invariant-tables l = Walked l.network l.tables l.roots l.met l.stack.items l.seen
