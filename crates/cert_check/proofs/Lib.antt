@@ -1,4 +1,6 @@
 mod PlaceFacts
+mod NodeFacts
+mod ArrivalFacts
 mod LeavesFacts
 mod RangesFacts
 mod KeepFacts

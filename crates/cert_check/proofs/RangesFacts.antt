@@ -5,7 +5,9 @@ use Rattle.std.proofs.lemmas.Bool.{cases_lt}
 use Rattle.std.proofs.lemmas.List.{length_push, get_or_append_left, get_or_push}
 use Rattle.service_model.specs.declared.plan.Plan.{Plan}
 use Rattle.service_model.specs.declared.range.Range.{Range}
+use Rattle.service_model.specs.declared.cert_rules.TheConstants.{SPLIT_NODE, SPLIT_PLAN, SPLIT_ARC}
 use Rattle.service_model.specs.declared.cert.Split.{Split}
+use Rattle.service_model.specs.declared.cert.Item.TheVariants.{Split as SplitItem}
 use Rattle.service_model.specs.Net.{Net}
 use Rattle.service_model.specs.Plans.{inbound_at, outbound_at}
 use Rattle.service_model.specs.Customers.{HasEnds}
@@ -13,9 +15,11 @@ use Rattle.service_model.specs.Ranges.{whole_of, HasIntervals, HoldsTime, ended,
 use Rattle.service_model.specs.CertRanges.{Cut, range_at, with_cuts, node_range, AreCuts}
 use Rattle.service_model.specs.Held.{Held, no_plan, relaxed_at, cut_by, cuts_of, range_of}
 use Rattle.service_model.specs.Earned.{IsNext, IsRelaxedAt, BreaksArc}
+use Rattle.service_model.specs.CertRules.{Keeps}
 use Rattle.cert_laws.proofs.CutFacts.{old_node, left_node, right_node}
 use Rattle.cert_laws.proofs.FloorFacts.{floor_ge}
 use Rattle.cert_laws.proofs.SplitFacts.{ends_there, is_cut}
+use Rattle.split_rules.specs.Halves.{last_of}
 use Rattle.split_rules.specs.declared.halves.Halves.{Halves}
 use Rattle.cert_check.specs.Arrivals.{no_halves, halves_at, IsRangeOf, AreRangesOf}
 
@@ -30,7 +34,8 @@ first_range n cuts = first_stays (whole_of n) [] cuts
 old_range : (n : Net) (cuts : List Cut) (c : Cut) (k : ℕ) (r : Range) → k < 2 * length cuts + 1 → IsRangeOf n cuts k r → IsRangeOf n (cuts ++ c ∷ []) k r
 old_range n cuts c k r low is = record { range = is.range ∙ sym (old_node n cuts c k low); intervals = is.intervals }
 
-new_ranges : (n : Net) (cuts : List Cut) (c : Cut) (k : ℕ) (x : Halves) → k ≡ length cuts → x.left ≡ ended (node_range n cuts c.node) c.stage c.last
+-- the halves of a split are the ranges of the two nodes behind it
+pub new_ranges : (n : Net) (cuts : List Cut) (c : Cut) (k : ℕ) (x : Halves) → k ≡ length cuts → x.left ≡ ended (node_range n cuts c.node) c.stage c.last
     → x.right ≡ started (node_range n cuts c.node) c.stage c.last → HasIntervals n x.left → HasIntervals n x.right → AreRangesOf n (cuts ++ c ∷ []) k x
 new_ranges n cuts c k x at left right left_intervals right_intervals =
     record {
@@ -95,3 +100,20 @@ holds_next n h s ends cuts next relaxed breaks =
       not_early = omega (arith, cut.not_early);
       not_late = omega (arith, supplier.not_late, breaks.broken, inbound, outbound, floor, customer.not_below);
     }
+
+-- the same of the split's range and plan, where it keeps all rules
+pub split_holds : (n m : Net) (h : Held) (s : Split) (r : Range) (p : Plan) → m ≡ n → HasEnds (length n.stages) n.arcs → AreCuts n (cuts_of n h)
+    → Keeps n h (SplitItem s) → r ≡ range_of n h s.node → relaxed_at h.nodes s.node ≡ p → HoldsTime r s.supplier (last_of m p s)
+split_holds n m h s r p same ends cuts keeps range plan =
+    let cut = (is_cut n h s ends cuts (keeps SPLIT_NODE) (keeps SPLIT_PLAN) (keeps SPLIT_ARC)).holds in
+    subst (λ (k : Net). HoldsTime r s.supplier (last_of k p s)) (sym same)
+    (subst (λ (q : Plan). HoldsTime r s.supplier (last_of n q s)) plan
+    (subst (λ (x : Range). HoldsTime x s.supplier (last_of n (relaxed_at h.nodes s.node) s)) (sym range) cut))
+
+pub split_holds_next : (n m : Net) (h : Held) (s : Split) (r : Range) (p : Plan) → m ≡ n → HasEnds (length n.stages) n.arcs → AreCuts n (cuts_of n h)
+    → Keeps n h (SplitItem s) → r ≡ range_of n h s.node → relaxed_at h.nodes s.node ≡ p → HoldsTime r s.supplier (last_of m p s + 1)
+split_holds_next n m h s r p same ends cuts keeps range plan =
+    let cut = holds_next n h s ends cuts (keeps SPLIT_NODE) (keeps SPLIT_PLAN) (keeps SPLIT_ARC) in
+    subst (λ (k : Net). HoldsTime r s.supplier (last_of k p s + 1)) (sym same)
+    (subst (λ (q : Plan). HoldsTime r s.supplier (last_of n q s + 1)) plan
+    (subst (λ (x : Range). HoldsTime x s.supplier (last_of n (relaxed_at h.nodes s.node) s + 1)) (sym range) cut))

@@ -45,9 +45,9 @@ pub record IsNodeMore (old new : Arrivals) (x : Node) (bound : ℕ) : Type 0 whe
   pub leaves : (q : Leaf) → Contains new.leaves q ↔ (Contains old.leaves q ⊎ (q ≡ record { bound = bound; node = length old.held.nodes }))
 
 -- a split came, and the node of this bound that it names is no leaf any more
-pub record IsSplitMore (old new : Arrivals) (s : Split) (halves : Halves) (bound : ℕ) : Type 0 where
+pub record IsSplitMore (old new : Arrivals) (s : Split) (made : Halves) (bound : ℕ) : Type 0 where
   pub held : new.held ≡ held_with old.held (SplitItem s)
-  pub halves : new.halves ≡ old.halves ++ halves ∷ []
+  pub halves : new.halves ≡ old.halves ++ made ∷ []
   pub leaves : (q : Leaf) → Contains new.leaves q ↔ (Contains old.leaves q × (q ≢ record { bound = bound; node = s.node }))
 
 -- nothing came, and the leaves are those that there were

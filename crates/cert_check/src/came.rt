@@ -106,7 +106,7 @@ impl Came {
     }
 
     pub(crate) fn into_verdict(self) -> Option<Verdict>
-        ensures { result ≡ self.entry.held.verdict }
+        ensures { result ≡ self.held.verdict }
     {
         self.verdict
     }
@@ -181,7 +181,9 @@ impl Came {
             bound,
             node: self.next_number(),
         };
-        self.leaves.insert(leaf)?;
+        if let Err(fault) = self.leaves.insert(leaf) {
+            return Err(fault);
+        }
         if let Err(fault) = self.nodes.push(node) {
             self.leaves.remove(leaf);
             return Err(fault);
@@ -199,7 +201,9 @@ impl Came {
         ensures ok { OnOk result (IsSplitMore self.old self.new split halves bound) }
         ensures err { OnErr result (IsUnchanged self.old self.new) }
     {
-        self.parted.push(Parted { split, halves })?;
+        if let Err(fault) = self.parted.push(Parted { split, halves }) {
+            return Err(fault);
+        }
         self.leaves.remove(Leaf {
             bound,
             node: split.node,

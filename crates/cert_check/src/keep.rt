@@ -34,7 +34,8 @@ fn keep_table(
     ensures err { OnErr result (came.new.held ≡ came.old.held) }
 {
     let copied = table.copy(alloc)?;
-    came.push_table(copied)
+    came.push_table(copied)?;
+    Ok(())
 }
 
 // A node is a leaf, and its relaxed plan may find a better plan.
@@ -76,7 +77,8 @@ fn keep_split(
     let node = came.node(split.node as usize);
     let bound = node_bound(came.tables(), node.roots.as_slice());
     let halves = rules.halves(alloc, came, split)?;
-    came.push_split(split, halves, bound)
+    came.push_split(split, halves, bound)?;
+    Ok(())
 }
 
 fn keep_end(
