@@ -20,7 +20,9 @@ use Rattle.split_rules.specs.declared.leaves.Leaf.{Leaf}
 use Rattle.split_rules.specs.Leaves.{AreLeaves, AreNodesComplete}
 
 same_leaf : (q : Leaf) (bound node : ℕ) → q.bound ≡ bound → q.node ≡ node → q ≡ record { bound = bound; node = node }
-same_leaf q bound node bounds nodes = ap (λ b. (let l : Leaf = record { bound = b; node = q.node } in l)) bounds ∙ ap (λ k. (let l : Leaf = record { bound = bound; node = k } in l)) nodes
+same_leaf q bound node bounds nodes =
+    ap (λ b. (let l : Leaf = record { bound = b; node = q.node } in l)) bounds
+    ∙ ap (λ k. (let l : Leaf = record { bound = bound; node = k } in l)) nodes
 
 -- ---- bounds
 -- the bound of a node is that of its roots

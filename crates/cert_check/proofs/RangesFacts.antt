@@ -25,7 +25,9 @@ use Rattle.cert_check.specs.Arrivals.{no_halves, halves_at, IsRangeOf, AreRanges
 
 first_stays : (r : Range) (ranges : List Range) (cuts : List Cut) → range_at (with_cuts (r ∷ ranges) cuts) 0 ≡ r
 first_stays r ranges [] = refl
-first_stays r ranges (c ∷ cuts) = first_stays r (ranges ++ ended (range_at (r ∷ ranges) c.node) c.stage c.last ∷ started (range_at (r ∷ ranges) c.node) c.stage c.last ∷ []) cuts
+first_stays r ranges (c ∷ cuts) =
+    let cut = range_at (r ∷ ranges) c.node in
+    first_stays r (ranges ++ ended cut c.stage c.last ∷ started cut c.stage c.last ∷ []) cuts
 
 -- the first node has the whole range
 pub first_range : (n : Net) (cuts : List Cut) → node_range n cuts 0 ≡ whole_of n
