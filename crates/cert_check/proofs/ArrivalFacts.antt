@@ -22,9 +22,9 @@ taken_out old new between leaf held halves put taken fresh = record {
   held = held;
   halves = halves;
   leaves = λ q. (
-      λ inside. let was = (taken q).0 inside in ⊎_elim (λ old. old) (λ is. absurd (was.1 is)) ((put q).0 was.0),
-      λ inside. (taken q).1 ((put q).1 (inl inside), λ is. fresh (subst (Contains old.leaves) is inside)),
-    );
+    λ inside. let was = (taken q).0 inside in ⊎_elim (λ old. old) (λ is. absurd (was.1 is)) ((put q).0 was.0),
+    λ inside. (taken q).1 ((put q).1 (inl inside), λ is. fresh (subst (Contains old.leaves) is inside)),
+  );
 }
 
 pub node_put_in : (old new : Arrivals) (x : Node) (bound number : ℕ) → number ≡ length old.held.nodes → new.held ≡ held_with old.held (NodeItem x)

@@ -1,9 +1,9 @@
 -- An item on which no rule fails leaves what is kept as it has to be.
 use Rattle.std.proofs.Common.{◌≡◌, ◌≢◌, ℕ, ◌+◌, List, [], ◌∷◌, ◌++◌, length, Option, refl, sym, ap, ◌∙◌, subst}
-use Rattle.std.specs.Prelude.{◌⊎◌, ◌↔◌, All, IfSome, Contains}
+use Rattle.std.specs.Prelude.{◌⊎◌, ◌↔◌, IfSome, Contains}
 use Rattle.std.proofs.lemmas.List.{length-map, length_push, map_push}
 use Rattle.std.proofs.lemmas.List.Elements.{All-push}
-use Rattle.service_model.specs.declared.cert_rules.TheConstants.{SHAPE, RELAXED, SPLIT_NODE, SPLIT_PLAN, SPLIT_ARC}
+use Rattle.service_model.specs.declared.cert_rules.TheConstants.{SHAPE, RELAXED}
 use Rattle.service_model.specs.declared.plan.Plan.{Plan}
 use Rattle.service_model.specs.declared.table.Table.{Table}
 use Rattle.service_model.specs.declared.cert.Head.{Head}
@@ -15,7 +15,6 @@ use Rattle.service_model.specs.Net.{Net}
 use Rattle.service_model.specs.Plans.{HasTimes}
 use Rattle.service_model.specs.Nodes.{bound_of}
 use Rattle.service_model.specs.CertNumbers.{TableInRange}
-use Rattle.service_model.specs.CertRanges.{Cut}
 use Rattle.service_model.specs.Repairs.{Found, FoundOf, better}
 use Rattle.service_model.specs.Held.{Held, held_with, relaxed_at, cut_by, cuts_of, relaxed_of, range_of, bound_at}
 use Rattle.service_model.specs.CertRules.{Keeps}

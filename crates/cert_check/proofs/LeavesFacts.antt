@@ -1,5 +1,5 @@
 -- The leaves as items come.
-use Rattle.std.proofs.Common.{◌≡◌, ◌≢◌, ℕ, ◌+◌, ◌*◌, ◌<◌, List, [], ◌∷◌, ◌++◌, length, map, get_or, take, Some, refl, sym, ap, ◌∙◌, subst, inl, inr, ⊎_elim, arith}
+use Rattle.std.proofs.Common.{◌≡◌, ◌≢◌, ℕ, ◌*◌, ◌<◌, List, [], ◌∷◌, ◌++◌, length, Some, refl, sym, ap, ◌∙◌, inl, inr, ⊎_elim, arith}
 use Rattle.std.specs.Prelude.{◌↔◌, ◌⊎◌, All, Contains, sum_by, slice_index}
 use Rattle.std.specs.List.{AllByRecursion}
 use Rattle.std.proofs.lemmas.Bool.{cases_lt}
@@ -20,7 +20,9 @@ use Rattle.split_rules.specs.declared.leaves.Leaf.{Leaf}
 use Rattle.split_rules.specs.Leaves.{AreLeaves, AreNodesComplete}
 
 same_leaf : (q : Leaf) (bound node : ℕ) → q.bound ≡ bound → q.node ≡ node → q ≡ record { bound = bound; node = node }
-same_leaf q bound node bounds nodes = ap (λ b. (let l : Leaf = record { bound = b; node = q.node } in l)) bounds ∙ ap (λ k. (let l : Leaf = record { bound = bound; node = k } in l)) nodes
+same_leaf q bound node bounds nodes =
+    ap (λ b. (let l : Leaf = record { bound = b; node = q.node } in l)) bounds
+    ∙ ap (λ k. (let l : Leaf = record { bound = bound; node = k } in l)) nodes
 
 -- ---- bounds
 -- the bound of a node is that of its roots

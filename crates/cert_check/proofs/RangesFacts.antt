@@ -1,5 +1,5 @@
 -- The halves of splits are the ranges of the nodes behind the first.
-use Rattle.std.proofs.Common.{◌≡◌, ◌≢◌, ℕ, ◌+◌, ◌-◌, ◌*◌, ◌/◌, ◌%◌, ◌<◌, ◌≤◌, List, [], ◌∷◌, ◌++◌, length, refl, sym, ap, ◌∙◌, subst, ⊎_elim, arith}
+use Rattle.std.proofs.Common.{◌≡◌, ℕ, ◌+◌, ◌*◌, ◌<◌, ◌≤◌, List, [], ◌∷◌, ◌++◌, length, refl, sym, ap, ◌∙◌, subst, ⊎_elim, arith}
 use Rattle.std.specs.Prelude.{unwrap_or}
 use Rattle.std.proofs.lemmas.Bool.{cases_lt}
 use Rattle.std.proofs.lemmas.List.{length_push, get_or_append_left, get_or_push}
@@ -25,7 +25,9 @@ use Rattle.cert_check.specs.Arrivals.{no_halves, halves_at, IsRangeOf, AreRanges
 
 first_stays : (r : Range) (ranges : List Range) (cuts : List Cut) → range_at (with_cuts (r ∷ ranges) cuts) 0 ≡ r
 first_stays r ranges [] = refl
-first_stays r ranges (c ∷ cuts) = first_stays r (ranges ++ ended (range_at (r ∷ ranges) c.node) c.stage c.last ∷ started (range_at (r ∷ ranges) c.node) c.stage c.last ∷ []) cuts
+first_stays r ranges (c ∷ cuts) =
+    let cut = range_at (r ∷ ranges) c.node in
+    first_stays r (ranges ++ ended cut c.stage c.last ∷ started cut c.stage c.last ∷ []) cuts
 
 -- the first node has the whole range
 pub first_range : (n : Net) (cuts : List Cut) → node_range n cuts 0 ≡ whole_of n
@@ -48,19 +50,6 @@ new_ranges n cuts c k x at left right left_intervals right_intervals =
         intervals = right_intervals;
       };
     }
-
--- the ranges of the nodes behind split k
-pub odd_range : (n : Net) (cuts : List Cut) (halves : List Halves) (node at : ℕ) → ((k : ℕ) → k < length halves → AreRangesOf n cuts k (halves_at halves k))
-    → node < 2 * length halves + 1 → node % 2 ≡ 1 → at ≡ (node - 1) / 2 → IsRangeOf n cuts node (halves_at halves at).left
-odd_range n cuts halves node at ranges there odd is =
-    let same : 2 * at + 1 ≡ node = omega (arith, odd, is) in
-    subst (λ k. IsRangeOf n cuts k (halves_at halves at).left) same (ranges at (omega (arith, same, there))).left
-
-pub even_range : (n : Net) (cuts : List Cut) (halves : List Halves) (node at : ℕ) → ((k : ℕ) → k < length halves → AreRangesOf n cuts k (halves_at halves k))
-    → node < 2 * length halves + 1 → node % 2 ≢ 1 → node ≢ 0 → at ≡ (node - 1) / 2 → IsRangeOf n cuts node (halves_at halves at).right
-even_range n cuts halves node at ranges there even some is =
-    let same : 2 * at + 2 ≡ node = omega (arith, even, some, is) in
-    subst (λ k. IsRangeOf n cuts k (halves_at halves at).right) same (ranges at (omega (arith, same, there))).right
 
 -- with one split more, whose halves come behind
 pub ranges_more : (n : Net) (cuts : List Cut) (c : Cut) (halves : List Halves) (x : Halves) → length halves ≡ length cuts

@@ -36,9 +36,9 @@ impl Model for Came {
     ghost Value = { Arrivals };
 
     ghost view = { λ c. record {
-        held = record { head = c.head; tables = c.tables; nodes = c.nodes; splits = map (λ p. p.split) c.parted; verdict = c.verdict };
-        halves = map (λ p. p.halves) c.parted;
-        leaves = c.leaves;
+      held = record { head = c.head; tables = c.tables; nodes = c.nodes; splits = map (λ p. p.split) c.parted; verdict = c.verdict };
+      halves = map (λ p. p.halves) c.parted;
+      leaves = c.leaves;
     } };
 }
 

@@ -214,7 +214,12 @@ impl<'a> Rules<'a> {
     }
 
     /// The halves of the range of a split's node.
-    pub(crate) fn halves(&self, alloc: Global, came: &Came, split: Split) -> Result<Halves, NoMemory>
+    pub(crate) fn halves(
+        &self,
+        alloc: Global,
+        came: &Came,
+        split: Split,
+    ) -> Result<Halves, NoMemory>
         requires kept { (found : Option Plan) × IsKept self.now came.now found }
         requires keeps { Keeps self.now came.now.held (SplitItem split) }
         ensures { IfOk result (AreHalves self.now (range_of self.now came.now.held split.node) (relaxed_at came.now.held.nodes split.node) split) }
@@ -227,7 +232,11 @@ impl<'a> Rules<'a> {
     }
 
     /// The plan that a node's relaxed plan finds.
-    pub(crate) fn found_of(&self, alloc: Global, relaxed: &Option<Plan>) -> Result<Option<Plan>, NoMemory>
+    pub(crate) fn found_of(
+        &self,
+        alloc: Global,
+        relaxed: &Option<Plan>,
+    ) -> Result<Option<Plan>, NoMemory>
         ensures { IfOk result (FoundOf self.now relaxed.now) }
     {
         found_of(alloc, self.network, &self.order, relaxed)

@@ -1,4 +1,4 @@
-use Rattle.std.proofs.Common.{◌≡◌, ℕ, List, [], ◌∷◌, ◌++◌, map, sym, ap, ◌∙◌, subst}
+use Rattle.std.proofs.Common.{◌≡◌, ℕ, List, map, sym, ap, ◌∙◌, subst}
 use Rattle.std.specs.Prelude.{◌⊎◌, ◌↔◌, Contains}
 use Rattle.service_model.specs.declared.cert.Node.{Node}
 use Rattle.service_model.specs.declared.cert.Item.TheVariants.{Node as NodeItem}
@@ -13,7 +13,9 @@ pub returns-in-Err-push-clause-err : goal.returns-in-Err-push-clause-err
 returns-in-Err-push-clause-err c =
     let f = c.self.inside in
     let old = c.args.self.now in
-    let with_nodes = λ (xs : List Node). (let h : Held = record { head = f.head; tables = f.tables; nodes = xs; splits = map (λ (p : Parted). p.split) f.parted; verdict = f.verdict } in h) in
+    let splits = map (λ (p : Parted). p.split) f.parted in
+    let with_nodes = λ (xs : List Node).
+    (let h : Held = record { head = f.head; tables = f.tables; nodes = xs; splits = splits; verdict = f.verdict } in h) in
     let leaf : Leaf = record { bound = c.args.bound; node = c.next_number.result } in
     let held : with_nodes c.push.new.self ≡ old.held = ap with_nodes c.in-Err-push.ensures.err ∙ ap (λ (a : Arrivals). a.held) c.self.view_is in
     let put = subst (λ (xs : List Leaf). (q : Leaf) → Contains c.insert.new.self q ↔ (Contains xs q ⊎ (q ≡ leaf))) (ap (λ (a : Arrivals). a.leaves) c.self.view_is)
@@ -25,7 +27,9 @@ pub returns-clause-ok : goal.returns-clause-ok
 returns-clause-ok c =
     let f = c.self.inside in
     let old = c.args.self.now in
-    let with_nodes = λ (xs : List Node). (let h : Held = record { head = f.head; tables = f.tables; nodes = xs; splits = map (λ (p : Parted). p.split) f.parted; verdict = f.verdict } in h) in
+    let splits = map (λ (p : Parted). p.split) f.parted in
+    let with_nodes = λ (xs : List Node).
+    (let h : Held = record { head = f.head; tables = f.tables; nodes = xs; splits = splits; verdict = f.verdict } in h) in
     let leaf : Leaf = record { bound = c.args.bound; node = c.next_number.result } in
     let held : with_nodes c.push.new.self ≡ held_with old.held (NodeItem c.args.node) =
     ap with_nodes c.in_default-push.ensures.ok ∙ ap (λ (a : Arrivals). held_with a.held (NodeItem c.args.node)) c.self.view_is in

@@ -1,4 +1,4 @@
-use Rattle.std.proofs.Common.{◌≡◌, length, sym, ap, ◌∙◌, subst}
+use Rattle.std.proofs.Common.{◌≡◌, sym, ap, ◌∙◌, subst}
 use Rattle.std.specs.Prelude.{unwrap_or}
 use Rattle.service_model.specs.declared.cert_rules.TheConstants.{SPLIT_PLAN, SPLIT_ARC}
 use Rattle.service_model.specs.declared.cert.Node.{Node}
