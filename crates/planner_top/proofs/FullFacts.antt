@@ -21,7 +21,7 @@ use Rattle.service_model.specs.CertRules.{EndsAsTold}
 use Rattle.service_model.specs.Certs.{AllKeep}
 use Rattle.cert_laws.proofs.KeptFacts.{held_after-append, AllKeep-parts}
 use Rattle.tree_order.specs.declared.forest.Forest.{Forest}
-use Rattle.range_branch.specs.Own.{IsOwn}
+use Rattle.search_laws.specs.Own.{IsOwn}
 
 -- with these items come so many nodes, and no head
 record Adds (h : Held) (items : List Item) (count : ℕ) : Type 0 where
