@@ -1,5 +1,5 @@
 -- How many nodes a search has, and which budgets are never spent.
-use Rattle.std.specs.Prelude.{◌≡◌, ℕ, ◌<◌, ◌≤◌, [], length}
+use Rattle.std.specs.Prelude.{◌≡◌, ◌<◌, ◌≤◌, [], length}
 use Rattle.service_model.specs.declared.cert.Outcome.TheVariants.{Spent}
 use Rattle.service_model.specs.declared.cert.Cert.{Cert}
 use Rattle.service_model.specs.Net.{Net}
