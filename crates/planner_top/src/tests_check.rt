@@ -105,12 +105,7 @@ fn check_over(alloc: Global, cert: &[u8], out: &mut SureSink) -> Result<Status, 
 }
 
 // Lines of a certificate, with one of them replaced.
-pub fn cert_with(
-    alloc: Global,
-    lines: &[&str],
-    place: usize,
-    line: &str,
-) -> Result<Vec<u8>, Fail> {
+pub fn cert_with(alloc: Global, lines: &[&str], place: usize, line: &str) -> Result<Vec<u8>, Fail> {
     let mut cert = Vec::new(alloc);
     for (k, good) in lines.iter().enumerate() {
         let text = if k == place { line } else { *good };

@@ -35,9 +35,11 @@ const LINES: [&str; 16] = [
 // The second node's relaxed plan may also be this one, which costs as little.
 const OTHER: &str = "[\"n\",[5],[[0,0,0,0],[0,0,0,0]]]\n";
 
-const SOLVED: &str = "optimal,7\nstage,inbound,outbound,time,stock,cost\nA,0,2,0,0,0\nB,2,0,2,6,6\nC,2,0,2,1,1\nD,0,0,0,0,0\nranges,3\nfilled,10\n";
+const SOLVED: &str =
+    "optimal,7\nstage,inbound,outbound,time,stock,cost\nA,0,2,0,0,0\nB,2,0,2,6,6\nC,2,0,2,1,1\nD,0,0,0,0,0\nranges,3\nfilled,10\n";
 
-const SPENT: &str = "spent,6,7\nstage,inbound,outbound,time,stock,cost\nA,0,2,0,0,0\nB,2,0,2,6,6\nC,2,0,2,1,1\nD,0,0,0,0,0\nranges,1\nfilled,4\n";
+const SPENT: &str =
+    "spent,6,7\nstage,inbound,outbound,time,stock,cost\nA,0,2,0,0,0\nB,2,0,2,6,6\nC,2,0,2,1,1\nD,0,0,0,0,0\nranges,1\nfilled,4\n";
 
 // A budget of ranges, what is printed with which status, and what is printed of the certificate.
 const BUDGETS: [(&str, Status, &str, &str); 3] = [
@@ -49,11 +51,7 @@ const BUDGETS: [(&str, Status, &str, &str); 3] = [
 // A line of the certificate that is replaced, and what is printed.
 const FORGED: [(usize, &str, &str); 5] = [
     (6, "", "not accepted,9,K7\n"),
-    (
-        3,
-        "[\"t\",1,1,0,2,0,[0],[0,7,6]]\n",
-        "not accepted,4,K13\n",
-    ),
+    (3, "[\"t\",1,1,0,2,0,[0],[0,7,6]]\n", "not accepted,4,K13\n"),
     (15, "", "not accepted,16,K8\n"),
     (6, "[\"s\",1,2,3]\n", "not accepted,7,K19\n"),
     (6, "[\"s\",0,0,1]\n", "not accepted,7,K22\n"),
@@ -113,10 +111,20 @@ fn the_certificate_of_a_search_is_accepted(rt: HostRuntime) -> Result<(), Fail> 
         let mut shelf = shelf_of(alloc, DIAMOND)?;
         let mut out = SureSink::new(alloc);
         let got = solve_diamond(alloc, ranges, &mut shelf, &mut out)?;
-        assert_eq!(rt; (got, out.written()), (status, text.as_bytes()), "{}", ranges);
+        assert_eq!(rt;
+            (got, out.written()),
+            (status, text.as_bytes()),
+            "{}",
+            ranges
+        );
         let mut out = SureSink::new(alloc);
         let got = check_diamond(alloc, &mut shelf, &mut out)?;
-        assert_eq!(rt; (got, out.written()), (Status::Done, checked.as_bytes()), "{}", ranges);
+        assert_eq!(rt;
+            (got, out.written()),
+            (Status::Done, checked.as_bytes()),
+            "{}",
+            ranges
+        );
     }
     Ok(())
 }
@@ -139,10 +147,14 @@ fn a_forged_certificate_of_the_diamond_is_not_accepted(rt: HostRuntime) -> Resul
     let alloc = rt.alloc();
     for (place, line, text) in FORGED {
         let mut shelf = shelf_of(alloc, DIAMOND)?;
-        shelf.with_file("c", &cert_with(alloc, &LINES, place, line)?)?;
+        let cert = cert_with(alloc, &LINES, place, line)?;
+        shelf.with_file("c", &cert)?;
         let mut out = SureSink::new(alloc);
         let got = check_diamond(alloc, &mut shelf, &mut out)?;
-        assert_eq!(rt; (got, out.written()), (Status::NotAccepted, text.as_bytes()));
+        assert_eq!(rt;
+            (got, out.written()),
+            (Status::NotAccepted, text.as_bytes())
+        );
     }
     Ok(())
 }
