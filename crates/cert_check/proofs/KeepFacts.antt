@@ -13,8 +13,7 @@ use Rattle.service_model.specs.CertNumbers.{TableInRange}
 use Rattle.service_model.specs.Held.{Held, held_with, relaxed_of}
 use Rattle.cert_laws.proofs.ItemFacts.{item_more_law}
 use Rattle.cert_laws.proofs.FoundFacts.{found_more_law}
-use Rattle.cert_check.specs.Faults.{IsPassed}
-use Rattle.cert_check.specs.Keeping.{IsKept, FoundIn}
+use Rattle.cert_check.specs.Keeping.{IsKept, IsPassed, FoundIn}
 
 tables_more : (n : Net) (h : Held) (x : Item) → All TableInRange h.tables → IsPassed n h x → All TableInRange (held_with h x).tables
 tables_more n h (HeadItem g) tables passed = tables

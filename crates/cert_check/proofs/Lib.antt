@@ -5,7 +5,6 @@ mod TakeFacts
 mod WholeFacts
 mod EndedFacts
 mod AnswerFacts
-mod PassFacts
 mod WalkFacts
 mod WalkedFacts
 pub mod RefusalFacts

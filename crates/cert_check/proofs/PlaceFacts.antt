@@ -1,24 +1,16 @@
--- What the rules up to PLACE say of an item, and the first fault where one of them fails.
-use Rattle.std.proofs.Common.{◌≡◌, ℕ, ◌*◌, ◌<◌, List, [], length, inl, ap, arith}
+-- What the rules up to PLACE say of an item.
+use Rattle.std.proofs.Common.{◌≡◌, ◌*◌, ◌<◌, List, [], length, ap, arith}
 use Rattle.std.proofs.lemmas.Bool.{ltb-false, leb-false}
 use Rattle.service_model.specs.declared.cert_rules.TheConstants.{SHAPE, PLACE}
 use Rattle.service_model.specs.declared.table.Table.{Table}
 use Rattle.service_model.specs.declared.cert.Node.{Node}
 use Rattle.service_model.specs.declared.cert.Split.{Split}
 use Rattle.service_model.specs.declared.cert.Verdict.{Verdict}
-use Rattle.service_model.specs.declared.cert.Item.{Item}
-use Rattle.service_model.specs.declared.cert.Item.TheVariants.{Head as HeadItem, Table as TableItem, Node as NodeItem, Split as SplitItem, End as EndItem}
+use Rattle.service_model.specs.declared.cert.Item.TheVariants.{Table as TableItem, Node as NodeItem, End as EndItem}
 use Rattle.service_model.specs.Net.{Net}
 use Rattle.service_model.specs.CertNumbers.{TableInRange}
 use Rattle.service_model.specs.Held.{Held}
-use Rattle.cert_check.specs.Faults.{IsPlaced, IsMisplaced, IsFirstFault}
-
-pub misplaced_fault : (n : Net) (h : Held) (x : Item) (rule : ℕ) → IsMisplaced n h x rule → IsFirstFault n h x rule
-misplaced_fault n h (HeadItem g) rule fault = fault.broken
-misplaced_fault n h (TableItem t) rule fault = fault.broken
-misplaced_fault n h (NodeItem x) rule fault = fault.broken
-misplaced_fault n h (SplitItem s) rule fault = inl fault
-misplaced_fault n h (EndItem v) rule fault = fault.broken
+use Rattle.cert_check.specs.Faults.{IsPlaced}
 
 pub table_numbers : (n : Net) (h : Held) (t : Table) → IsPlaced n h (TableItem t) → TableInRange t
 table_numbers n h t placed = placed SHAPE (omega arith)

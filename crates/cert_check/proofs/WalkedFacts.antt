@@ -6,10 +6,10 @@ use Rattle.service_model.specs.declared.cert.Item.TheVariants.{Head as HeadItem}
 use Rattle.service_model.specs.Net.{Net}
 use Rattle.service_model.specs.Items.{items_from, items_of}
 use Rattle.service_model.specs.Held.{Held, none_held}
+use Rattle.service_model.specs.Certs.{AllKeep}
 use Rattle.cert_laws.proofs.KeptFacts.{held_after-end}
 use Rattle.cert_check.specs.declared.check_fault.CheckFault.{CheckFault}
 use Rattle.cert_check.specs.declared.check_fault.CheckFault.TheVariants.{Fault, NoMemory}
-use Rattle.cert_check.specs.Faults.{IsChecked}
 use Rattle.cert_check.specs.Checking.{new_checking}
 use Rattle.cert_check.specs.Written.{IsAcceptedCert, ChecksCert}
 use Rattle.cert_check.specs.Walking.{Walking, HasWalked, Walks}
@@ -40,7 +40,7 @@ pub accepted_cert : (n : Net) (c : Cert) (now : Walking) (v : Verdict) → Walks
 accepted_cert n c now v walks has =
     let walked = walked_cert n c now walks in
     record {
-      checked = subst (λ (m : Net). IsChecked m (items_of c)) walks.0 walked.stands.checked;
+      keep = subst (λ (m : Net). AllKeep m none_held (items_of c)) walks.0 walked.stands.keep;
       short = walked.short;
       verdict = some_verdict (sym has ∙ cert_verdict n c now walks);
     }

@@ -1,5 +1,5 @@
 -- What a checker keeps.
-use Rattle.std.specs.Prelude.{◌≡◌, ℕ, List, [], length, All, Option, None, ◌↔◌}
+use Rattle.std.specs.Prelude.{◌≡◌, ℕ, List, [], length, All, Option, Some, None, ◌↔◌}
 use Rattle.service_model.specs.declared.plan.Plan.{Plan}
 use Rattle.service_model.specs.declared.range.Range.{Range}
 use Rattle.service_model.specs.declared.cert.Item.{Item}
@@ -11,7 +11,9 @@ use Rattle.service_model.specs.Ranges.{whole_of, HasIntervals}
 use Rattle.service_model.specs.Repairs.{Found, FoundOf}
 use Rattle.service_model.specs.CertNumbers.{TableInRange}
 use Rattle.service_model.specs.Held.{Held, relaxed_of}
-use Rattle.service_model.specs.CertRules.{most_floor}
+use Rattle.service_model.specs.CertRules.{most_floor, Keeps}
+use Rattle.service_model.specs.Items.{split_of}
+use Rattle.service_model.specs.Certs.{IsFirstBroken}
 use Rattle.cert_laws.specs.SoFar.{SoundSoFar}
 
 -- an order of the network's stages, its whole range, its greatest floor and its horizon
@@ -30,6 +32,16 @@ pub record IsKept (n : Net) (h : Held) (found : Option Plan) : Type 0 where
   pub tables : All TableInRange h.tables
   pub no_split : h.splits ≡ []
   pub best : Found n (relaxed_of h) found
+
+-- all rules hold of the item, and it is no split
+pub record IsPassed (n : Net) (h : Held) (x : Item) : Type 0 where
+  pub keep : Keeps n h x
+  pub no_split : split_of x ≡ None
+
+-- the first rule that fails on the item, none where it passes
+abbrev pub IsAnswer : Net → Held → Item → Option ℕ → Type 0
+IsAnswer n h x None = IsPassed n h x
+IsAnswer n h x (Some rule) = IsFirstBroken n h x rule
 
 -- the plan that an item's relaxed plan finds, none where the item is no node
 abbrev pub FoundIn : Net → Item → Option Plan → Type 0

@@ -35,7 +35,7 @@ impl<'a> Model for Checker<'a> {
 impl<'a> Checker<'a> {
     ghost use Rattle.service_model.specs.Verdicts.{IsTrueOf};
     ghost use Rattle.service_model.specs.Held.{held_with};
-    ghost use Rattle.cert_check.specs.Faults.{IsPassed};
+    ghost use Rattle.cert_check.specs.Keeping.{IsPassed};
     ghost use Rattle.cert_check.specs.Checking.{new_checking, Takes};
 
     /// A checker to which nothing came.

@@ -16,7 +16,7 @@ pub fn not_both_law()
     ensures { NotBothLaw }
 {}
 
-/// The lines of a certificate without splits on which no rule fails are accepted, whoever wrote it.
+/// The lines of a certificate on which no rule fails are accepted, whoever wrote it.
 pub fn written_law()
     ensures { WrittenLaw }
 {}

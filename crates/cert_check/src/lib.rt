@@ -6,7 +6,6 @@ mod came;
 mod check_fault;
 mod checker;
 mod laws;
-mod not_yet;
 mod numbers;
 mod rules;
 #[cfg(test)]
@@ -18,6 +17,5 @@ pub use bytes::check_bytes;
 pub use check_fault::CheckFault;
 pub use checker::Checker;
 pub use laws::{not_both_law, refusal_one_law, verdict_one_law, written_law};
-pub use not_yet::SPLIT_NOT_YET;
 pub use table_rules::{Scratch, local_holds};
 pub use written::check;

@@ -7,12 +7,11 @@ ghost use Rattle.service_model.specs.Faults.{IsNetwork};
 ghost use Rattle.service_model.specs.CertNumbers.{TableInRange};
 ghost use Rattle.service_model.specs.Repairs.{better};
 ghost use Rattle.service_model.specs.CertRules.{TableRule, NodeRule, EndRule, IsFirstOf};
-ghost use Rattle.cert_check.specs.Faults.{IsPlaced, IsFaultOf};
+ghost use Rattle.cert_check.specs.Faults.{IsPlaced};
 ghost use Rattle.cert_check.specs.Frames.{HeadRule};
-ghost use Rattle.cert_check.specs.Keeping.{IsKept, FoundIn};
+ghost use Rattle.cert_check.specs.Keeping.{IsKept, IsAnswer, FoundIn};
 
 use crate::came::Came;
-use crate::not_yet::SPLIT_NOT_YET;
 use end_rules::{end_fault, found_of, keep_better};
 use node_rules::{node_bound, node_fault};
 use service_model::cert_rules::NETWORK;
@@ -132,20 +131,19 @@ impl<'a> Rules<'a> {
     ) -> Result<Option<u8>, NoMemory>
         requires kept { IsKept self.old came.now found.now }
         requires placed { IsPlaced self.old came.now item.now }
-        ensures first { IfOk result (IsFaultOf self.old came.now item.now) }
+        ensures first { IfOk result (IsAnswer self.old came.now item.now) }
         ensures same { self.new ≡ self.old }
     {
         match item {
             Item::Head(head) => Ok(self.head_fault(head)),
             Item::Table(table) => Ok(self.table_fault(came, table)),
             Item::Node(node) => self.node_fault(alloc, came, node),
-            Item::Split(_) => Ok(Some(SPLIT_NOT_YET)),
+            Item::Split(_) => Err(NoMemory),
             Item::End(verdict) => Ok(self.end_fault(came, found, verdict)),
         }
     }
 
     /// The first rule that fails on the item behind those that came, none where it passes.
-    #[tactic(auto, using(crate::proofs::PlaceFacts::misplaced_fault))]
     pub(crate) fn item_fault(
         &mut self,
         alloc: Global,
@@ -154,7 +152,7 @@ impl<'a> Rules<'a> {
         item: &Item,
     ) -> Result<Option<u8>, NoMemory>
         requires kept { IsKept self.old came.now found.now }
-        ensures first { IfOk result (IsFaultOf self.old came.now item.now) }
+        ensures first { IfOk result (IsAnswer self.old came.now item.now) }
         ensures same { self.new ≡ self.old }
     {
         if let Some(rule) = came.frame_fault(item) {

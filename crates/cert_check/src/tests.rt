@@ -1,5 +1,5 @@
 // A certificate of two stages, by hand: the supplier with lead time 3, and its customer with lead time 2 and no service time.
-use crate::{CheckFault, SPLIT_NOT_YET, check, check_bytes};
+use crate::{CheckFault, check, check_bytes};
 use bound_cert::{CertFault, CertReader, FeedStop};
 use service_model::cert_rules::{
     CHILD, CHILD_ARC, FITS, LOCAL, NETWORK, NO_END, PLACE, PLAN, RELAXED, ROOT, STAGE_TWICE, TABLE,
@@ -24,7 +24,7 @@ const LONGEST: usize = 100_000;
 // A line that is another, the line at which a rule then fails, and the rule.
 type Forgery = (usize, &'static str, u64, u8);
 
-const FORGERIES: [Forgery; 12] = [
+const FORGERIES: [Forgery; 11] = [
     (1, "[\"gsm-cert\",1,4,2,10]", 1, NETWORK),
     (2, "[\"t\",1,1,0,0,0,[],[7,9,10,12,13]]", 2, TABLE),
     (3, "[\"t\",0,2,0,5,0,[1],[11]]", 3, CHILD),
@@ -34,7 +34,6 @@ const FORGERIES: [Forgery; 12] = [
     (4, "[\"n\",[0],[[0,0],[0,0]]]", 4, ROOT),
     (4, "[\"n\",[1,1],[[0,0],[0,0]]]", 4, STAGE_TWICE),
     (4, "[\"n\",[1],[[0],[0,0]]]", 4, RELAXED),
-    (5, "[\"s\",0,0,1]", 5, SPLIT_NOT_YET),
     (5, "[\"e\",0,10,[[0,0],[0,0]]]", 5, VERDICT),
     (5, "[\"e\",0,11,[[0,0],[1,0]]]", 5, PLAN),
 ];

@@ -2,9 +2,8 @@ use Rattle.std.proofs.Common.{◌≡◌, Option, sym, ap, ◌∙◌, subst}
 use Rattle.service_model.specs.declared.plan.Plan.{Plan}
 use Rattle.service_model.specs.Held.{Held, held_with}
 use Rattle.service_model.specs.Repairs.{better}
-use Rattle.cert_check.specs.Faults.{IsPassed}
 use Rattle.cert_check.specs.Checking.{Checking}
-use Rattle.cert_check.specs.Keeping.{IsKept}
+use Rattle.cert_check.specs.Keeping.{IsKept, IsPassed}
 use Rattle.cert_check.proofs.KeepFacts.{kept_more}
 use Rattle.cert_check.proofs.checker.Checker.keep.Goals as goal
 
