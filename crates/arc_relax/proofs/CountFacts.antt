@@ -53,7 +53,7 @@ no_more numbers n m fresh =
     omega (arith, all, long numbers n)
 
 -- and no fewer, where each stage has a table of its own
-no_fewer : (n : Net) (r : Range) (f : Forest) (tables : List Table) (numbers : List ℕ) → HaveTables n r f tables numbers → length n.stages ≤ length tables
+pub no_fewer : (n : Net) (r : Range) (f : Forest) (tables : List Table) (numbers : List ℕ) → HaveTables n r f tables numbers → length n.stages ≤ length tables
 no_fewer n r f tables numbers have =
     let xs = numbers_to numbers (length n.stages) in
     let size = long numbers (length n.stages) in

@@ -20,7 +20,7 @@ use Rattle.tree_tables.specs.declared.wanted.Wanted.{Wanted}
 use Rattle.tree_tables.specs.Fills.{IsWanted, IsAsWanted}
 use Rattle.tree_tables.proofs.FillLaws.{tight_at_grown}
 use Rattle.table_pool.specs.Pools.{IsFoundOrFilled, IsUnchanged}
-use Rattle.arc_relax.specs.StageTables.{HasTable, IsWantedOf, IsLonger, AreMade, IsGrown}
+use Rattle.arc_relax.specs.StageTables.{HasTable, IsWantedOf, IsLonger, StandInOrder, AreMade, IsGrown}
 use Rattle.arc_relax.proofs.ListFacts.{each_member}
 use Rattle.arc_relax.proofs.TableFacts.{child_stage, child_own, kind_child}
 
@@ -152,6 +152,46 @@ steps_more n new new' w count count' id found = ⊎_elim
     (λ added. inr (added.step, ap length added.more ∙ length_push new added.table, added.last))
     found.change
 
+-- the order of the new tables
+
+-- tables stand in order still, as others come behind
+pub stand_still : (order : List ℕ) (tables more : List Table) (from to : ℕ) → to ≤ length tables → StandInOrder order tables from to
+    → StandInOrder order (tables ++ more) from to
+stand_still order tables more from to there stand i k late less early =
+    let at = stand i k late less early in
+    let kept = λ (m : ℕ) (low : m < length tables). sym (ap (λ (t : Table). t.stage) (get_or_append_left tables more no_table m low)) in
+    (at.0, at.1, at.2, at.3, at.4 ∙ kept i (omega (arith, less, early, there)), at.5 ∙ kept k (omega (arith, early, there)))
+
+-- one more stands behind the others, where its stage is the next of the order
+one_behind : (order : List ℕ) (old new new' : List Table) (first : ℕ) → first < length order → IsLonger new new'
+    → ((i : ℕ) → length old ≤ i → i < length new → (m : ℕ) × (m < first) × ((table_at new i).stage ≡ get_or order m 0))
+    → (length new' ≡ length new) ⊎ ((length new' ≡ length new + 1) × ((table_at new' (length new)).stage ≡ get_or order first 0))
+    → StandInOrder order new (length old) (length new) → StandInOrder order new' (length old) (length new')
+one_behind order old new new' first within longer stages long stand i k late less early =
+    let still = subst (λ (ts : List Table). StandInOrder order ts (length old) (length new)) (sym longer.1)
+    (stand_still order new longer.0 (length old) (length new) (omega arith) stand) in
+    ⊎_elim
+    (λ before. still i k late less before)
+    (λ past. ⊎_elim
+    (λ same. absurd (omega (arith, same, early, past)))
+    (λ one.
+    let here : length new ≡ k = omega (arith, one.0, early, past) in
+    let low : i < length new = omega (arith, less, here) in
+    let at = stages i late low in
+    let kept : (table_at new' i).stage ≡ (table_at new i).stage =
+    ap (λ (ts : List Table). (table_at ts i).stage) longer.1 ∙ ap (λ (t : Table). t.stage) (get_or_append_left new longer.0 no_table i low) in
+    (at.0, first, at.1, within, sym (kept ∙ at.2), sym (ap (λ m. (table_at new' m).stage) (sym here) ∙ one.1)))
+    long)
+    (cases_lt k (length new))
+
+-- a new table is that of a stage behind
+fresh_stage : (n : Net) (r : Range) (f : Forest) (old new : List Table) (count count' : ℕ) (numbers : List ℕ) (first : ℕ)
+    → AreMade n r f old new count count' numbers first → (i : ℕ) → length old ≤ i → i < length new
+    → (m : ℕ) × (m < first) × ((table_at new i).stage ≡ get_or f.order m 0)
+fresh_stage n r f old new count count' numbers first made i late early =
+    let at = made.fresh i late early in
+    (at.0, at.1, ap (λ k. (table_at new k).stage) (sym at.2) ∙ (made.made at.0 at.1).own.stage)
+
 -- the next stage of the order has its table
 pub next_made : (n : Net) (r : Range) (f : Forest) (old new new' : List Table) (count count' count'' : ℕ) (numbers : List ℕ) (k id : ℕ) (w : Wanted) → IsForest (length n.stages) n.arcs f
     → AreMade n r f old new count count' numbers k → k < length f.order → IsWantedOf n r f numbers (get_or f.order k 0) w → IsFoundOrFilled n new new' w count' count'' id
@@ -192,6 +232,12 @@ next_made n r f old new new' count count' count'' numbers k id w forest made wit
           (λ added. (k, omega arith, get_or-set_same numbers j id 0 (omega (arith, low, made.long)) ∙ omega (arith, added.1, added.2, early, past)))
           steps)
           (cases_lt i (length new));
+      turns = one_behind f.order old new new' k within longer (fresh_stage n r f old new count count' numbers k made)
+          (⊎_elim
+          (λ held. inl held.1)
+          (λ added. inr (added.1, ap (λ m. (table_at new' m).stage) (sym added.2) ∙ found.wanted.stage ∙ is.stage))
+          steps)
+          made.turns;
     }
 
 -- where the next stage's table is not made, the pool has grown, and the count kept its room

@@ -73,5 +73,6 @@ relaxed_from n r f old new count count' numbers roots valid forest made are x re
             (order_each (length n.stages) n.arcs f forest).low was.0 0 (omega (arith, was.1, order_long n f forest)),
             was.2,
           );
+      turns = made.turns;
       steps = made.steps;
     }

@@ -12,7 +12,7 @@ use Rattle.tree_order.specs.declared.forest.Forest.{Forest}
 use Rattle.gsm_laws.specs.Traces.{IsTracedNode, IsWhole}
 use Rattle.table_pool.specs.Pools.{IsPool}
 use Rattle.arc_relax.specs.declared.relaxed.Relaxed.{Relaxed}
-use Rattle.arc_relax.specs.StageTables.{HaveTables, root_numbers, IsLonger}
+use Rattle.arc_relax.specs.StageTables.{HaveTables, root_numbers, IsLonger, StandInOrder}
 use Rattle.arc_relax.specs.Laws.{HasPlan}
 
 -- the plan is within the tables at or below the roots, meets the arcs between them and costs the bound, which is below INF
@@ -39,8 +39,9 @@ pub record IsRelaxed (n : Net) (f : Forest) (r : Range) (old new : List Table) (
   pub roots : x.roots ≡ root_numbers f numbers
   pub whole : IsWhole n new x.roots
   pub bound : x.bound ≡ bound_of new x.roots
-  -- the pool has more tables at its end: each is a stage's, and was one step
+  -- the pool has more tables at its end: each is a stage's, and was one step; they stand in the forest's order
   pub pool : IsPool n new
   pub longer : IsLonger old new
   pub fresh : (i : ℕ) → length old ≤ i → i < length new → (j : ℕ) × (j < length n.stages) × (slice_index numbers j ≡ i)
+  pub turns : StandInOrder f.order new (length old) (length new)
   pub steps : count' + length old ≡ count + length new

@@ -47,7 +47,7 @@ StandInOrder order tables from to =
 abbrev pub IsLonger : List Table → List Table → Type 0
 IsLonger old new = (more : List Table) × (new ≡ old ++ more)
 
--- the pool holds the tables of the first stages of the order, each table more is one of them, and was one step
+-- the pool holds the tables of the first stages of the order, each table more is one of them, in their order, and was one step
 pub record AreMade (n : Net) (r : Range) (f : Forest) (old new : List Table) (count count' : ℕ) (numbers : List ℕ) (first : ℕ) : Type 0 where
   pub pool : IsPool n new
   pub longer : IsLonger old new
@@ -56,6 +56,7 @@ pub record AreMade (n : Net) (r : Range) (f : Forest) (old new : List Table) (co
   pub long : length numbers ≡ length n.stages
   pub made : (m : ℕ) → m < first → HasTable n r f new numbers (slice_index f.order m)
   pub fresh : (i : ℕ) → length old ≤ i → i < length new → (m : ℕ) × (m < first) × (slice_index numbers (slice_index f.order m) ≡ i)
+  pub turns : StandInOrder f.order new (length old) (length new)
 
 -- after a refusal: the pool holds what it held and perhaps more, each table more was one step, there was at most one step beside, and no more than stages
 pub record IsGrown (n : Net) (old new : List Table) (count count' : ℕ) : Type 0 where

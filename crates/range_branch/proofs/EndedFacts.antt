@@ -27,6 +27,7 @@ use Rattle.tree_order.specs.declared.forest.Forest.{Forest}
 use Rattle.tree_order.specs.Forest.{IsForest}
 use Rattle.tree_order.proofs.ForestLaws.{all_kept}
 use Rattle.arc_relax.specs.Laws.{HasPlan}
+use Rattle.arc_relax.proofs.CountFacts.{no_fewer}
 use Rattle.cert_laws.specs.Grown.{open_items}
 use Rattle.cert_laws.proofs.TablesKeptFacts.{keeps}
 use Rattle.cert_laws.proofs.KeptFacts.{AllKeep-push}
@@ -38,8 +39,8 @@ use Rattle.range_splits.proofs.OpenFacts.{open_law}
 use Rattle.range_nodes.specs.Sizes.{IsShortNode}
 use Rattle.range_nodes.specs.Nodes.{IsRangeNode}
 use Rattle.range_nodes.proofs.PlanFacts.{relaxed_at, feasible_found, short_node}
+use Rattle.search_laws.specs.Own.{IsOwn}
 use Rattle.range_branch.specs.Progress.{came, cert_with}
-use Rattle.range_branch.specs.Own.{IsOwn}
 use Rattle.range_branch.specs.Sizes.{IsShortCert}
 use Rattle.range_branch.specs.Solutions.{SolvesAs, Solves}
 use Rattle.range_branch.specs.Steps.{IsSearched}
@@ -81,10 +82,12 @@ ended_own n f budget tables c valid is =
     let own : IsOwn n f budget (seen_cert n f budget tables c is) = record {
       keep = ended_keeps n f budget tables c valid is;
       budget_is = refl;
+      whole = is.is_progress.whole (verdict_of n f budget tables c is);
       tables = is.is_progress.searched.pool;
       nodes = λ k within.
           let same : range_at p.ranges k ≡ range_of n h k = ap (λ (rs : List Range). range_at rs k) is.is_progress.ranges in
           subst (λ (r : Range). IsRangeNode n f tables r (node_at p.nodes k)) same (is.is_progress.nodes k within).node;
+      turns = is.is_progress.turns (verdict_of n f budget tables c is);
     } in
     subst (IsOwn n f budget) (sym is.cert.is) own
 
@@ -115,18 +118,26 @@ none_left : (xs : List Split) → length xs ≡ 0 → xs ≡ []
 none_left [] none = refl
 none_left (x ∷ xs) none = absurd (omega (arith, none))
 
--- where no arc is dropped there is one node, which has seen all tables
+-- where no arc is dropped there is one node
 pub ended_one : (n : Net) (f : Forest) (budget : ℕ) (tables : List Table) (c : Cert) → IsSearched n f budget tables c
-    → (let none : List ℕ = [] in f.dropped ≡ none) → (length c.nodes ≡ 1) × (c.splits ≡ []) × ((node_at c.nodes 0).seen ≡ length c.tables)
+    → (let none : List ℕ = [] in f.dropped ≡ none) → (length c.nodes ≡ 1) × (c.splits ≡ [])
 ended_one n f budget tables c is tree =
     let p = is.progress in
-    let v = verdict_of n f budget tables c is in
     let one = is.is_progress.tree tree in
     let many = many_nodes n f budget tables p is.is_progress in
-    let none : length p.splits ≡ 0 = omega (arith, one, many) in
-    let last = (is.is_progress.whole v).last in
-    let seen : (node_at p.nodes 0).seen ≡ length tables = ap (λ k. (node_at p.nodes (2 * k)).seen) (sym none) ∙ last in
-    subst (λ (d : Cert). (length d.nodes ≡ 1) × (d.splits ≡ []) × ((node_at d.nodes 0).seen ≡ length d.tables)) (sym is.cert.is) (one, none_left p.splits none, seen)
+    subst (λ (d : Cert). (length d.nodes ≡ 1) × (d.splits ≡ [])) (sym is.cert.is) (one, none_left p.splits (omega (arith, one, many)))
+
+-- with one table for each stage
+pub ended_stages : (n : Net) (f : Forest) (budget : ℕ) (tables : List Table) (c : Cert) → IsSearched n f budget tables c
+    → (let none : List ℕ = [] in f.dropped ≡ none) → length c.tables ≡ length n.stages
+ended_stages n f budget tables c is tree =
+    let p = is.progress in
+    let one = is.is_progress.tree tree in
+    let node = (is.is_progress.nodes 0 (omega (arith, one))).node in
+    let few = is.is_progress.few in
+    let rows = ap (λ k. k * length n.stages) one in
+    let fewer = no_fewer n (range_at p.ranges 0) f tables node.numbers node.stages in
+    ap (λ (d : Cert). length d.tables) is.cert.is ∙ (let all : length tables ≡ length n.stages = omega (arith, few, rows, fewer) in all)
 
 -- and the search is not spent
 not_spent : (n : Net) (f : Forest) (budget : ℕ) (tables : List Table) (c : Cert) → IsNetwork n → IsForest (length n.stages) n.arcs f

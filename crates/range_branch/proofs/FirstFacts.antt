@@ -32,9 +32,11 @@ use Rattle.range_nodes.specs.declared.made.Made.{Made}
 use Rattle.range_nodes.specs.Nodes.{AreSearched, IsRangeNode, IsMade}
 use Rattle.range_nodes.proofs.TableFacts.{new_tables}
 use Rattle.range_nodes.proofs.RuleFacts.{node_rules}
+use Rattle.search_laws.specs.Own.{AreInTurn}
 use Rattle.range_branch.specs.declared.progress.Progress.{Progress}
 use Rattle.range_branch.specs.Progress.{head_of, cert_with, IsInside, IsNodeAt, IsProgress}
 use Rattle.range_branch.specs.First.{IsFirst}
+use Rattle.range_branch.proofs.TurnFacts.{AreNew, made_new, in_turn}
 
 pub keeps_head : (n : Net) (budget : ℕ) → IsNetwork n → 1 ≤ budget → budget ≤ MAX_BUDGET → Keeps n none_held (HeadItem (head_of n budget))
 keeps_head n budget valid some most =
@@ -117,6 +119,13 @@ first_node : (n : Net) (f : Forest) (tables : List Table) (r : Range) (m : Made)
 first_node n f tables r m found leaves inside node zero within = record { range = inside; node = node }
 first_node n f tables r m found leaves inside node (suc k) within = absurd (omega (arith, within))
 
+first_turn : (n : Net) (f : Forest) (budget : ℕ) (tables : List Table) (r : Range) (m : Made) (found : Option Plan) (leaves : List Leaf) (v : Verdict)
+    → AreNew f tables 0 (length tables) m.node → m.node.seen ≡ length tables → (k : ℕ) → k < 1
+    → AreInTurn f (cert_with n budget tables (first_of r m found leaves) v) k
+first_turn n f budget tables r m found leaves v new seen zero within =
+    in_turn f (cert_with n budget tables (first_of r m found leaves) v) 0 0 (length tables) m.node refl refl seen new
+first_turn n f budget tables r m found leaves v new seen (suc k) within = absurd (omega (arith, within))
+
 -- the search of the whole range
 pub first_is_progress : (n : Net) (f : Forest) (budget : ℕ) (tables : List Table) (count count' : ℕ) (m : Made) (found : Option Plan) (p : Progress)
     → IsNetwork n → IsForest (length n.stages) n.arcs f → 1 ≤ budget → budget ≤ MAX_BUDGET → HasIntervals n (whole_of n)
@@ -135,6 +144,8 @@ first_is_progress n f budget tables count count' m found p valid forest some mos
       few = let few = made.few in omega (arith, few);
       ranges = refl;
       nodes = λ k within. first_node n f tables (whole_of n) m found p.leaves (whole_inside n intervals) made.node k (omega (arith, within));
+      turns = λ v k within. first_turn n f budget tables (whole_of n) m found p.leaves v
+          (made_new n f (whole_of n) [] tables count count' m forest made) made.seen k (omega (arith, within));
       leaves = first_leaves tables x m.bound p.leaves made.bound is.leaves;
       found = found_more_law n [] x.relaxed None found (no_candidate n) best;
       tree = λ none. refl;

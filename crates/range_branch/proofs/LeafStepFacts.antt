@@ -32,7 +32,9 @@ use Rattle.range_branch.specs.Steps.{IsCutting, CutBy, AreHalves}
 use Rattle.range_branch.proofs.RepairableFacts.{repairable}
 use Rattle.range_branch.proofs.InsideFacts.{ended_inside, started_inside}
 use Rattle.range_branch.proofs.SplittingFacts.{IsNextLeafOf, IsSplitAt}
-use Rattle.range_branch.proofs.StepFacts.{AreSplitHalves, split_of, goes_on_with, long_two}
+use Rattle.range_branch.proofs.TwoMoreFacts.{long_two}
+use Rattle.range_branch.proofs.TurnFacts.{made_new}
+use Rattle.range_branch.proofs.StepFacts.{AreSplitHalves, split_of, goes_on_with}
 
 times_by : (n : Net) (r : Range) (parent : List ℕ) (bound : ℕ) (plan : Option Plan) → HasPlan n r parent bound plan → IfSome plan (HasTimes n)
 times_by n r parent bound None has = tt
@@ -126,6 +128,8 @@ stepped n f budget old new count count' p next leaf q c h valid most forest is l
       right_seen = two.seen;
       left_bound = one.bound;
       right_bound = two.bound;
+      left_new = made_new n f h.left old (old ++ front) count halves.steps h.left_made forest one;
+      right_new = made_new n f h.right (old ++ front) ((old ++ front) ++ back) halves.steps count' h.right_made forest two;
     } in
     let x = h.left_made.node in
     let y = h.right_made.node in

@@ -1,3 +1,5 @@
+mod TwoMoreFacts
+mod TurnFacts
 mod ReplaceFacts
 mod RepairableFacts
 mod OpenFacts

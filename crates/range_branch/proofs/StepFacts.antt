@@ -1,8 +1,7 @@
 -- The search after a leaf was split.
-use Rattle.std.proofs.Common.{◌≡◌, ◌⊎◌, ℕ, ◌+◌, ◌*◌, ◌<◌, ◌≤◌, List, [], ◌∷◌, ◌++◌, length, map, refl, sym, ap, ◌∙◌, subst, inl, inr, ⊎_elim, arith}
+use Rattle.std.proofs.Common.{◌≡◌, ℕ, ◌+◌, ◌*◌, ◌<◌, ◌≤◌, List, [], ◌∷◌, ◌++◌, length, map, refl, sym, ap, ◌∙◌, subst, ⊎_elim, arith}
 use Rattle.std.specs.Prelude.{Option, Some, All, slice_index_or}
-use Rattle.std.proofs.lemmas.Bool.{cases_lt, cases_eq}
-use Rattle.std.proofs.lemmas.List.{append_assoc, map-append, length-append, length_push, length-map, get_or-map, get_or_append_left, get_or_push}
+use Rattle.std.proofs.lemmas.List.{append_assoc, map-append, length-append, length_push, length-map, get_or-map}
 use Rattle.service_model.specs.declared.cert_rules.TheConstants.{MAX_BUDGET}
 use Rattle.service_model.specs.declared.plan.Plan.{Plan}
 use Rattle.service_model.specs.declared.range.Range.{Range}
@@ -40,10 +39,13 @@ use Rattle.range_splits.proofs.SplitFacts.{split_law}
 use Rattle.range_nodes.specs.declared.made.Made.{Made}
 use Rattle.range_nodes.specs.Nodes.{AreSearched, IsRangeNode}
 use Rattle.range_nodes.proofs.StayFacts.{node_stays, bound_stays}
+use Rattle.search_laws.specs.Own.{seen_before, AreInTurn}
 use Rattle.range_branch.specs.declared.progress.Progress.{Progress}
 use Rattle.range_branch.specs.declared.halves.Cutting.{Cutting}
 use Rattle.range_branch.specs.Progress.{came, cert_with, IsInside, IsNodeAt, IsProgress, IsFoundMore, AreReplaced, leaf_of}
 use Rattle.range_branch.specs.Steps.{IsCutting}
+use Rattle.range_branch.proofs.TwoMoreFacts.{old_at, left_at, right_at, long_two, where_at}
+use Rattle.range_branch.proofs.TurnFacts.{AreNew, new_stay, new_in_turn, in_turn, last_seen, seen_before-old, seen_before-right}
 use Rattle.range_branch.proofs.CutsFacts.{cuts_stay, cut_stays}
 use Rattle.range_branch.proofs.ItemsFacts.{showing, all_keep, split_keeps}
 use Rattle.range_branch.proofs.LeavesFacts.{AreCutLeaves, leaves_more}
@@ -60,27 +62,6 @@ cuts_with n nodes more splits s named there =
 with_more : (ranges : List Range) (cuts : List Cut) (c : Cut) → with_cuts ranges (cuts ++ c ∷ []) ≡ with_halves (with_cuts ranges cuts) c
 with_more ranges [] c = refl
 with_more ranges (x ∷ cuts) c = with_more (with_halves ranges x) cuts c
-
--- two more behind a list, by their places
-old_at : {A : Type 0} (xs : List A) (y z d : A) (k : ℕ) → k < length xs → slice_index_or ((xs ++ y ∷ []) ++ z ∷ []) k d ≡ slice_index_or xs k d
-old_at xs y z d k within =
-    get_or_append_left (xs ++ y ∷ []) (z ∷ []) d k (omega (arith, within, length_push xs y)) ∙ get_or_append_left xs (y ∷ []) d k within
-
-left_at : {A : Type 0} (xs : List A) (y z d : A) (k : ℕ) → length xs ≡ k → slice_index_or ((xs ++ y ∷ []) ++ z ∷ []) k d ≡ y
-left_at xs y z d k at =
-    get_or_append_left (xs ++ y ∷ []) (z ∷ []) d k (omega (arith, at, length_push xs y)) ∙ get_or_push xs y d k at
-
-right_at : {A : Type 0} (xs : List A) (y z d : A) (k : ℕ) → length xs + 1 ≡ k → slice_index_or ((xs ++ y ∷ []) ++ z ∷ []) k d ≡ z
-right_at xs y z d k at = get_or_push (xs ++ y ∷ []) z d k (omega (arith, at, length_push xs y))
-
-pub long_two : {A : Type 0} (xs : List A) (y z : A) → length ((xs ++ y ∷ []) ++ z ∷ []) ≡ length xs + 2
-long_two xs y z = omega (arith, length_push xs y, length_push (xs ++ y ∷ []) z)
-
--- which of the old entries, or of the two more
-where_at : (long k : ℕ) → k < long + 2 → (k < long) ⊎ ((long ≡ k) ⊎ (long + 1 ≡ k))
-where_at long k within = ⊎_elim (λ low. inl low)
-    (λ high. ⊎_elim (λ is. inr (inl (sym is))) (λ other. inr (inr (omega (arith, high, other, within)))) (cases_eq k long))
-    (cases_lt k long)
 
 -- the search with the halves
 abbrev pub split_of : Progress → Split → Range → Range → Node → Node → List Leaf → Option Plan → Progress
@@ -113,6 +94,8 @@ pub record AreSplitHalves (n : Net) (f : Forest) (budget : ℕ) (old front back 
   pub right_seen : y.node.seen ≡ length ((old ++ front) ++ back)
   pub left_bound : x.bound ≡ bound_of (old ++ front) x.node.roots
   pub right_bound : y.bound ≡ bound_of ((old ++ front) ++ back) y.node.roots
+  pub left_new : AreNew f (old ++ front) (length old) (length (old ++ front)) x.node
+  pub right_new : AreNew f ((old ++ front) ++ back) (length (old ++ front)) (length ((old ++ front) ++ back)) y.node
 
 -- the cuts before and behind the split
 cuts_before : (n : Net) (f : Forest) (budget : ℕ) (old front back : List Table) (p : Progress) (leaf : Leaf) (c : Cutting) (left right : Range) (x y : Made)
@@ -267,6 +250,32 @@ nodes_at n f budget old front back p leaf c left right x y leaves found h k with
     (λ is. at right y.node h.right_inside h.right_node (right_at p.ranges left right no_range k (ap (λ m. m + 1) long ∙ is)) (right_at p.nodes x.node y.node no_node k is)))
     (where_at (length p.nodes) k within)
 
+-- each node's new tables come in turn
+turns_at : (n : Net) (f : Forest) (budget : ℕ) (old front back : List Table) (p : Progress) (leaf : Leaf) (c : Cutting) (left right : Range) (x y : Made)
+    (leaves : List Leaf) (found : Option Plan) → AreSplitHalves n f budget old front back p leaf c left right x y → (v : Verdict) → (k : ℕ) → k < length p.nodes + 2
+    → AreInTurn f (cert_with n budget ((old ++ front) ++ back) (split_of p c.split left right x.node y.node leaves found) v) k
+turns_at n f budget old front back p leaf c left right x y leaves found h v k within =
+    let now = cert_with n budget ((old ++ front) ++ back) (split_of p c.split left right x.node y.node leaves found) v in
+    let was = cert_with n budget old p v in
+    let searched = subst (AreSearched n) (append_assoc old front back) h.right_searched in
+    let last = last_seen was (h.is.whole v) in
+    ⊎_elim
+    (λ low.
+    let there : (node_at p.nodes k).seen ≤ length old = (h.is.whole v).seen k no_node low in
+    let stays = subst (λ (ts : List Table). AreNew f ts (seen_before p.nodes k) (node_at p.nodes k).seen (node_at p.nodes k)) (sym (append_assoc old front back))
+    (new_stay n f old (front ++ back) (range_at p.ranges k) (node_at p.nodes k) (seen_before p.nodes k) (node_at p.nodes k).seen searched
+    (h.is.nodes k low).node there (new_in_turn f was k (h.is.turns v k low))) in
+    in_turn f now k (seen_before p.nodes k) (node_at p.nodes k).seen (node_at p.nodes k) (seen_before-old p.nodes x.node y.node k (omega (arith, low)))
+    (old_at p.nodes x.node y.node no_node k low) refl stays)
+    (⊎_elim
+    (λ is.
+    let stays = new_stay n f (old ++ front) back left x.node (length old) (length (old ++ front)) h.right_searched h.left_node (omega arith) h.left_new in
+    in_turn f now k (length old) (length (old ++ front)) x.node
+    (seen_before-old p.nodes x.node y.node k (omega (arith, is)) ∙ ap (seen_before p.nodes) (sym is) ∙ last) (left_at p.nodes x.node y.node no_node k is) h.left_seen stays)
+    (λ is. in_turn f now k (length (old ++ front)) (length ((old ++ front) ++ back)) y.node
+    (seen_before-right p.nodes x.node y.node k is ∙ h.left_seen) (right_at p.nodes x.node y.node no_node k is) h.right_seen h.right_new))
+    (where_at (length p.nodes) k within)
+
 -- the relaxed plan that is split breaks an arc that the forest drops
 drops : (n : Net) (f : Forest) (tables : List Table) (r : Range) (z : Node) (q : Plan) (a : ℕ) → IsForest (length n.stages) n.arcs f
     → IsRangeNode n f tables r z → z.relaxed ≡ Some q → IsMostBroken n q a → (let none : List ℕ = [] in f.dropped ≡ none) → ⊥
@@ -357,6 +366,7 @@ goes_on_with n f budget old front back p leaf q c left right x y leaves between 
       few = few;
       ranges = cut_ranges ∙ ap (ranges_of n) (sym both_cuts);
       nodes = λ k within. nodes_at n f budget old front back p leaf c left right x y leaves found h k (omega (arith, within, long_two p.nodes x.node y.node));
+      turns = λ v k within. turns_at n f budget old front back p leaf c left right x y leaves found h v k (omega (arith, within, long_two p.nodes x.node y.node));
       leaves = subst (λ cs. AreLeaves tables (roots_of (came n budget tables new)) cs leaves) (sym both_cuts)
           (subst (λ rs. AreLeaves tables rs (cuts ++ cut ∷ []) leaves) (sym (same_roots p.nodes x.node y.node)) leaves_are);
       found = found_more n p.nodes x.node y.node p.found between found h.is.found one two;

@@ -3,4 +3,3 @@ pub mod Solutions
 pub mod Progress
 pub mod First
 pub mod Steps
-pub mod Own

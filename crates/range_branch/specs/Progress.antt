@@ -23,6 +23,7 @@ use Rattle.open_leaves.specs.declared.leaf.Leaf.{Leaf}
 use Rattle.range_splits.specs.Open.{AreLeaves}
 use Rattle.range_branch.specs.declared.halves.Halves.{Halves}
 use Rattle.range_nodes.specs.Nodes.{AreSearched, IsRangeNode}
+use Rattle.search_laws.specs.Own.{AreInTurn}
 use Rattle.range_branch.specs.declared.progress.Given.{Given}
 use Rattle.range_branch.specs.declared.progress.Progress.{Progress}
 
@@ -55,8 +56,8 @@ pub record IsNodeAt (n : Net) (f : Forest) (tables : List Table) (p : Progress) 
   pub range : IsInside n (range_at p.ranges k)
   pub node : IsRangeNode n f tables (range_at p.ranges k) (node_at p.nodes k)
 
--- a search so far: no rule fails on its items, its nodes are their ranges, its leaves are known with their bounds, and the
--- plan found is that of its nodes
+-- a search so far: no rule fails on its items, its nodes are their ranges, each table came with the first node that uses it, its
+-- leaves are known with their bounds, and the plan found is that of its nodes
 pub record IsProgress (n : Net) (f : Forest) (budget : ℕ) (tables : List Table) (p : Progress) : Type 0 where
   pub whole : (v : Verdict) → IsWhole (cert_with n budget tables p v)
   pub keep : (v : Verdict) → AllKeep n none_held (open_items (cert_with n budget tables p v))
@@ -66,6 +67,7 @@ pub record IsProgress (n : Net) (f : Forest) (budget : ℕ) (tables : List Table
   pub few : length tables ≤ length p.nodes * length n.stages
   pub ranges : p.ranges ≡ ranges_of n (cuts_of n (came n budget tables p))
   pub nodes : (k : ℕ) → k < length p.nodes → IsNodeAt n f tables p k
+  pub turns : (v : Verdict) → (k : ℕ) → k < length p.nodes → AreInTurn f (cert_with n budget tables p v) k
   pub leaves : AreLeaves tables (roots_of (came n budget tables p)) (cuts_of n (came n budget tables p)) p.leaves
   pub found : Found n (relaxed_of (came n budget tables p)) p.found
   -- where no arc is dropped there is one node

@@ -1,12 +1,13 @@
 // The search over ranges.
-ghost use Rattle.std.specs.Prelude.{◌≡◌, ◌≢◌, ◌+◌, ◌*◌, ◌≤◌, ◌^◌, [], IfOk, OnOk, OnErr, length};
+ghost use Rattle.std.specs.Prelude.{◌≡◌, ◌≢◌, ◌+◌, ◌*◌, ◌<◌, ◌≤◌, ◌^◌, [], IfOk, OnOk, OnErr, length};
 ghost use Rattle.service_model.specs.Orders.{IsTopological};
+ghost use Rattle.service_model.specs.declared.cert.Outcome.TheVariants.{Spent};
 ghost use Rattle.service_model.specs.Verdicts.{IsTrueOf};
-ghost use Rattle.service_model.specs.Held.{node_at};
 ghost use Rattle.tree_order.specs.Forest.{IsForest};
 ghost use Rattle.range_branch.specs.Solutions.{Solves};
 ghost use Rattle.range_branch.specs.Sizes.{IsShortCert};
-ghost use Rattle.range_branch.specs.Own.{IsOwn};
+ghost use Rattle.search_laws.specs.Own.{IsOwn};
+ghost use Rattle.search_laws.specs.Enough.{enough_of};
 ghost use Rattle.range_branch.specs.Progress.{IsGiven};
 ghost use Rattle.range_branch.specs.Steps.{IsSearched};
 
@@ -80,10 +81,13 @@ pub fn search<L>(
     ensures own { IfOk result (IsOwn network.now forest.now budget) }
     ensures true_verdict { IfOk result (λ c. IsTrueOf network.now c.verdict) }
     ensures short { IfOk result (IsShortCert network.now) }
-    // Where the forest drops no arc, one node solves the network.
+    // Where the forest drops no arc, one node solves the network, with one table for each stage.
     ensures one { IfOk result (λ c. forest.now.dropped ≡ [] → (length c.nodes ≡ 1) × (c.splits ≡ [])) }
-    ensures seen { IfOk result (λ c. forest.now.dropped ≡ [] → (node_at c.nodes 0).seen ≡ length c.tables) }
+    ensures stages { IfOk result (λ c. forest.now.dropped ≡ [] → length c.tables ≡ length network.now.stages) }
     ensures solved { IfOk result (λ c. forest.now.dropped ≡ [] → Solves network.now c.verdict) }
+    // Whatever the budget is, there are no more nodes than are enough, and a budget that is enough is never spent.
+    ensures nodes { IfOk result (λ c. length c.nodes ≤ enough_of network.now forest.now) }
+    ensures spent { IfOk result (λ c. c.verdict.outcome ≡ Spent → budget < enough_of network.now forest.now) }
     ensures pool { IfOk result (λ c. pool.new ≡ c.tables) }
     ensures emptied { OnErr result (pool.new ≡ []) }
     ensures filled { IfOk result (λ c. steps.new ≡ steps.old + length c.tables) }

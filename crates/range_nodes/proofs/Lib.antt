@@ -3,7 +3,7 @@ mod FrontFacts
 mod FloorFacts
 mod SizeFacts
 mod RiseFacts
-mod NodeFacts
+pub mod NodeFacts
 mod MadeFacts
 pub mod StayFacts
 pub mod TableFacts

@@ -121,6 +121,7 @@ made_from n f r old new count count' seen x m valid forest intervals searched ma
       tables = searched_more n f r old new count count' x valid forest intervals searched many is;
       longer = is.longer;
       fresh = is.fresh;
+      turns = is.turns;
       steps = is.steps;
       few = relaxed_few n f r old new count count' x is;
     })

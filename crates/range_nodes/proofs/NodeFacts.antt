@@ -1,8 +1,8 @@
 -- The tables of a node and its relaxed plan.
-use Rattle.std.proofs.Common.{ℕ, ◌<◌, List, length, get_or, Option, Some, None, sym, ap, subst, arith}
+use Rattle.std.proofs.Common.{◌≡◌, ℕ, ◌<◌, List, length, get_or, Option, Some, None, sym, ap, ◌∙◌, subst, arith}
 use Rattle.std.specs.Prelude.{All, IfSome}
 use Rattle.std.specs.List.{AllByRecursion}
-use Rattle.std.proofs.lemmas.List.{get_or_default}
+use Rattle.std.proofs.lemmas.List.{get_or_default, get_or-map, length-map}
 use Rattle.std.proofs.lemmas.List.Elements.{recursion_from_All, All-from_recursion, All-contains_itself}
 use Rattle.service_model.specs.declared.plan.Plan.{Plan}
 use Rattle.service_model.specs.declared.range.Range.{Range}
@@ -13,6 +13,7 @@ use Rattle.service_model.specs.Plans.{HasTimes}
 use Rattle.service_model.specs.Faults.{IsNetwork}
 use Rattle.service_model.specs.Ranges.{HasIntervals, floor_of}
 use Rattle.service_model.specs.Nodes.{below, below_roots, Fits}
+use Rattle.service_model.specs.Tables.{table_at}
 use Rattle.service_model.specs.Relaxed.{IsTableOf}
 use Rattle.service_model.specs.CertNumbers.{PlanInRange}
 use Rattle.gsm_laws.proofs.ElementFacts.{all_map, all_concat}
@@ -23,6 +24,7 @@ use Rattle.arc_relax.specs.StageTables.{HaveTables, root_numbers}
 use Rattle.arc_relax.specs.Laws.{HasPlan}
 use Rattle.arc_relax.proofs.WholeFacts.{each_below_root}
 use Rattle.range_nodes.specs.Nodes.{IsRangeNode}
+use Rattle.range_nodes.specs.Laws.{StageBelowLaw}
 use Rattle.range_nodes.proofs.BackFacts.{all_below_back}
 
 -- the roots' numbers are those of tables
@@ -44,6 +46,18 @@ each_below n f tables r x P forest is holds =
     (subst (λ (ks : List ℕ). AllByRecursion P (below_roots tables ks)) (sym is.roots)
     (all_below_back P (below tables) roots
     (all_concat P (below tables) roots (each_below_root n r f tables is.numbers P forest is.stages holds))))
+
+-- each stage's table stands at or below the roots: some table of the stage does, and that is the stage's
+pub stage_below : StageBelowLaw
+stage_below n f tables r x j forest is low =
+    let stage = λ (k : ℕ). (table_at tables k).stage in
+    let number = λ (i : ℕ). get_or is.numbers i 0 in
+    let ks = below_roots tables x.roots in
+    let own = each_below n f tables r x (λ k. number (stage k) ≡ k) forest is (λ i inside. ap number (is.stages i inside).own.stage) in
+    let at = is.whole.every j low in
+    let within : at.0 < length ks = omega (arith, at.1, length-map ks stage) in
+    let here : stage (get_or ks at.0 (number j)) ≡ j = sym (get_or-map stage ks at.0 (number j) j within) ∙ at.2 in
+    (at.0, within, sym (own at.0 (number j) within) ∙ ap number here)
 
 -- a stage's table fits the range
 pub fits_range : (n : Net) (r : Range) (parent : List ℕ) (lists : List (List ℕ)) (numbers : List ℕ) (j : ℕ) (t : Table)

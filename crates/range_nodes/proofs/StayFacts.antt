@@ -18,6 +18,7 @@ use Rattle.tree_order.specs.declared.forest.Forest.{Forest}
 use Rattle.tree_tables.proofs.FillLaws.{tight_at_grown}
 use Rattle.arc_relax.specs.StageTables.{HasTable}
 use Rattle.arc_relax.specs.Laws.{HasPlan}
+use Rattle.range_nodes.specs.Nodes.{AreSearched}
 use Rattle.range_nodes.specs.Laws.{NodeStaysLaw, BoundStaysLaw}
 use Rattle.range_nodes.proofs.FrontFacts.{sound_front}
 
@@ -47,14 +48,24 @@ table_stays n r f tables more numbers j has =
       own = subst (IsTableOf n r f.parent f.children numbers j) (sym (get_or_append_left tables more no_table k has.tight.there)) has.own;
     }
 
+below_same : (n : Net) (tables more : List Table) (roots : List ℕ) → Sound n tables → AllByRecursion (λ k. k < length tables) roots
+    → below_roots (tables ++ more) roots ≡ below_roots tables roots
+below_same n tables more roots sound there =
+    flat_map_same (below (tables ++ more)) (below tables) roots
+    (each (λ k. k < length tables) (λ k. below (tables ++ more) k ≡ below tables k) (λ k within. below_grown n tables more sound (suc k) k within) roots there)
+
+-- the tables at or below the roots stay
+pub below_stays : (n : Net) (tables more : List Table) (roots : List ℕ) → AreSearched n (tables ++ more) → All (λ k. k < length tables) roots
+    → below_roots (tables ++ more) roots ≡ below_roots tables roots
+below_stays n tables more roots searched inside =
+    below_same n tables more roots (sound_front n tables more searched.pool.tight) (recursion_from_All (λ k. k < length tables) roots inside)
+
 whole_stays : (n : Net) (tables more : List Table) (roots : List ℕ) → Sound n tables → All (λ k. k < length tables) roots → IsWhole n tables roots
     → IsWhole n (tables ++ more) roots
 whole_stays n tables more roots sound inside whole =
     let there = recursion_from_All (λ k. k < length tables) roots inside in
     let stage = λ (t : Table). t.stage in
-    let same : below_roots (tables ++ more) roots ≡ below_roots tables roots =
-    flat_map_same (below (tables ++ more)) (below tables) roots
-    (each (λ k. k < length tables) (λ k. below (tables ++ more) k ≡ below tables k) (λ k within. below_grown n tables more sound (suc k) k within) roots there) in
+    let same = below_same n tables more roots sound there in
     let stages : map (λ k. stage (table_at (tables ++ more) k)) (below_roots (tables ++ more) roots) ≡ map (λ k. stage (table_at tables k)) (below_roots tables roots) =
     ap (map (λ k. stage (table_at (tables ++ more) k))) same ∙ same_read stage tables more (below_roots tables roots) (below_there n tables roots sound there) in
     record {

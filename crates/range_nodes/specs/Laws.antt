@@ -1,5 +1,5 @@
 -- The laws over the nodes of a search.
-use Rattle.std.specs.Prelude.{◌≡◌, ℕ, ◌<◌, ◌≤◌, List, [], ◌++◌, length, slice_index, All, Some}
+use Rattle.std.specs.Prelude.{◌≡◌, ℕ, ◌<◌, ◌≤◌, List, [], ◌++◌, length, slice_index, All, Some, Contains}
 use Rattle.service_model.specs.declared.limits.TheConstants.{INF}
 use Rattle.service_model.specs.declared.plan.Plan.{Plan}
 use Rattle.service_model.specs.declared.range.Range.{Range}
@@ -10,7 +10,7 @@ use Rattle.service_model.specs.Net.{Net, stage_at}
 use Rattle.service_model.specs.Plans.{Feasible, Meets}
 use Rattle.service_model.specs.Faults.{IsNetwork}
 use Rattle.service_model.specs.Ranges.{whole_of, HasIntervals}
-use Rattle.service_model.specs.Nodes.{bound_of}
+use Rattle.service_model.specs.Nodes.{below_roots, bound_of}
 use Rattle.service_model.specs.CertNumbers.{InRange}
 use Rattle.service_model.specs.Held.{Held, node_at, budget_of, range_of, bound_at}
 use Rattle.service_model.specs.Earned.{IsRelaxedAt}
@@ -62,6 +62,11 @@ FeasibleFoundLaw = (n : Net) (f : Forest) (tables : List Table) (r : Range) (x :
 abbrev pub ShortNodeLaw : Type 0
 ShortNodeLaw = (n : Net) (f : Forest) (tables : List Table) (r : Range) (x : Node) → IsForest (length n.stages) n.arcs f → IsRangeNode n f tables r x
     → IsShortNode n x
+
+-- each stage's table stands at or below the roots
+abbrev pub StageBelowLaw : Type 0
+StageBelowLaw = (n : Net) (f : Forest) (tables : List Table) (r : Range) (x : Node) (j : ℕ) → IsForest (length n.stages) n.arcs f
+    → (is : IsRangeNode n f tables r x) → j < length n.stages → Contains (below_roots tables x.roots) (slice_index is.numbers j)
 
 -- the roots are tables of the forest's roots, by rising number of their stages
 abbrev pub RootsLaw : Type 0

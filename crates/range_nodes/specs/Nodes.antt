@@ -11,7 +11,7 @@ use Rattle.service_model.specs.CertRules.{most_floor}
 use Rattle.tree_order.specs.declared.forest.Forest.{Forest}
 use Rattle.gsm_laws.specs.Traces.{IsWhole}
 use Rattle.table_pool.specs.Pools.{IsPool}
-use Rattle.arc_relax.specs.StageTables.{HaveTables, root_numbers, IsLonger}
+use Rattle.arc_relax.specs.StageTables.{HaveTables, root_numbers, IsLonger, StandInOrder}
 use Rattle.arc_relax.specs.Laws.{HasPlan}
 use Rattle.range_nodes.specs.declared.made.Made.{Made}
 use Rattle.range_nodes.specs.Sizes.{IsShortTable}
@@ -43,7 +43,8 @@ pub record IsMade (n : Net) (f : Forest) (r : Range) (old new : List Table) (cou
   pub seen : m.node.seen ≡ length new
   pub tables : AreSearched n new
   pub longer : IsLonger old new
-  -- each new table is a stage's, and was one step
+  -- each new table is a stage's, they stand in the forest's order, and each was one step
   pub fresh : (i : ℕ) → length old ≤ i → i < length new → (j : ℕ) × (j < length n.stages) × (slice_index node.numbers j ≡ i)
+  pub turns : StandInOrder f.order new (length old) (length new)
   pub steps : count' + length old ≡ count + length new
   pub few : length new ≤ length old + length n.stages

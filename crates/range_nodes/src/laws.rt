@@ -1,5 +1,5 @@
 // The laws, each as the contract of a call that does nothing.
-ghost use Rattle.range_nodes.specs.Laws.{NoTablesLaw, NodeStaysLaw, BoundStaysLaw, NewTablesLaw, NodeRulesLaw, RelaxedAtLaw, FeasibleFoundLaw, ShortNodeLaw, RootsLaw, TreeSolvesLaw};
+ghost use Rattle.range_nodes.specs.Laws.{NoTablesLaw, NodeStaysLaw, BoundStaysLaw, NewTablesLaw, NodeRulesLaw, RelaxedAtLaw, FeasibleFoundLaw, ShortNodeLaw, StageBelowLaw, RootsLaw, TreeSolvesLaw};
 
 /// A search begins with no tables.
 pub fn no_tables_law()
@@ -39,6 +39,11 @@ pub fn feasible_found_law()
 /// A node has at most a root for each stage, and its plan two times for each.
 pub fn short_node_law()
     ensures { ShortNodeLaw }
+{}
+
+/// Each stage's table stands at or below the roots.
+pub fn stage_below_law()
+    ensures { StageBelowLaw }
 {}
 
 /// A node's roots are those of the forest, by rising number of their stages.
