@@ -1,5 +1,8 @@
 mod PlaceFacts
 mod NodeFacts
+mod ArrivalFacts
+mod LeavesFacts
+mod RangesFacts
 mod KeepFacts
 mod TakeFacts
 mod WholeFacts

@@ -1,46 +1,35 @@
--- Where no split came, the first node has the whole range, and is the only leaf.
-use Rattle.std.proofs.Common.{◌≡◌, ℕ, ◌<◌, ◌≤◌, List, [], length, map, sym, ap, ◌∙◌, subst, arith}
-use Rattle.std.proofs.lemmas.List.{get_or-map}
+-- The node of what came, from what calls give.
+use Rattle.std.proofs.Common.{◌≡◌, ℕ, ◌<◌, List, length, sym, subst}
+use Rattle.std.specs.Prelude.{All}
+use Rattle.service_model.specs.declared.range.Range.{Range}
+use Rattle.service_model.specs.declared.table.Kind.TheVariants.{Root}
+use Rattle.service_model.specs.declared.table.Table.{Table}
 use Rattle.service_model.specs.declared.cert.Node.{Node}
-use Rattle.service_model.specs.declared.cert.Item.TheVariants.{Node as NodeItem}
 use Rattle.service_model.specs.Net.{Net}
-use Rattle.service_model.specs.Ranges.{whole_of}
-use Rattle.service_model.specs.Nodes.{bound_of}
-use Rattle.service_model.specs.CertRanges.{Cut, node_range, node_bound}
-use Rattle.service_model.specs.Verdicts.{IsLeastBound}
-use Rattle.service_model.specs.Held.{Held, no_node, node_at, cut_by, cuts_of, roots_of, range_of}
-use Rattle.cert_check.specs.Faults.{IsPlaced}
-use Rattle.cert_check.proofs.PlaceFacts.{no_node_before}
+use Rattle.service_model.specs.Tables.{table_at, Sound, IsShaped}
+use Rattle.service_model.specs.Nodes.{IsNode}
 
-no_cuts : (n : Net) (h : Held) → h.splits ≡ [] → cuts_of n h ≡ []
-no_cuts n h none = ap (map (cut_by n h.nodes)) none
+pub node_as : (n m : Net) (tables ts : List Table) (range r : Range) (x y : Node) → m ≡ n → ts ≡ tables → r ≡ range → y ≡ x → IsNode n tables range x.roots
+    → IsNode m ts r y.roots
+node_as n m tables ts range r x y net same ranges nodes is =
+    subst (λ (k : Net). IsNode k ts r y.roots) (sym net)
+    (subst (λ (us : List Table). IsNode n us r y.roots) (sym same)
+    (subst (λ (s : Range). IsNode n tables s y.roots) (sym ranges)
+    (subst (λ (z : Node). IsNode n tables range z.roots) (sym nodes) is)))
 
-pub first_range : (n : Net) (h : Held) → h.splits ≡ [] → range_of n h 0 ≡ whole_of n
-first_range n h none = ap (λ cuts. node_range n cuts 0) (no_cuts n h none)
+pub shaped_as : (n : Net) (tables ts : List Table) → ts ≡ tables → Sound n tables → (m : Net) × ((k : ℕ) → k < length ts → IsShaped m ts k (table_at ts k))
+shaped_as n tables ts same sound = (n, subst (λ (us : List Table). (k : ℕ) → k < length us → IsShaped n us k (table_at us k)) (sym same) sound.shaped)
 
--- the range of the node that comes
-pub next_range : (n : Net) (h : Held) (x : Node) (count : ℕ) → h.splits ≡ [] → IsPlaced n h (NodeItem x) → length h.nodes ≡ count → range_of n h count ≡ whole_of n
-next_range n h x count none placed long =
-    let first : 0 ≡ count = omega (arith, no_node_before n h x none placed, long) in
-    subst (λ k. range_of n h k ≡ whole_of n) first (first_range n h none)
+-- the numbers of roots, and that they are roots
+abbrev pub AreRoots : List Table → List ℕ → Type 0
+AreRoots tables roots = All (λ k. (k < length tables) × ((table_at tables k).kind ≡ Root)) roots
 
-first_bound : (h : Held) → 0 < length h.nodes → node_bound h.tables (roots_of h) 0 ≡ bound_of h.tables (node_at h.nodes 0).roots
-first_bound h some = ap (bound_of h.tables) (get_or-map (λ x. x.roots) h.nodes 0 no_node [] some)
+roots_as : (tables ts : List Table) (roots rs : List ℕ) → ts ≡ tables → rs ≡ roots → AreRoots tables roots → AreRoots ts rs
+roots_as tables ts roots rs same equal are =
+    subst (λ (us : List Table). AreRoots us rs) (sym same) (subst (AreRoots tables) (sym equal) are)
 
-bound_is_least : (h : Held) (cuts : List Cut) (least : ℕ) → cuts ≡ [] → node_bound h.tables (roots_of h) 0 ≡ least
-    → IsLeastBound h.tables (roots_of h) cuts least
-bound_is_least h cuts least none reached =
-    let long : length cuts ≡ 0 = ap length none in
-    record {
-      lower = λ k leaf.
-          let here : 0 ≡ k = omega (arith, leaf.there, long) in
-          subst (λ j. least ≤ node_bound h.tables (roots_of h) j) here (omega (arith, reached));
-      node = 0;
-      leaf = record { there = omega (arith, long); not_cut = λ k d within. absurd (omega (arith, within, long)) };
-      reached = reached;
-    }
+pub roots_there : (tables ts : List Table) (roots rs : List ℕ) → ts ≡ tables → rs ≡ roots → AreRoots tables roots → All (λ k. k < length ts) rs
+roots_there tables ts roots rs same equal are = λ k d within. (roots_as tables ts roots rs same equal are k d within).0
 
--- the bound of the first node is the least of a leaf
-pub least_bound : (n : Net) (h : Held) (least : ℕ) → h.splits ≡ [] → 0 < length h.nodes → least ≡ bound_of h.tables (node_at h.nodes 0).roots
-    → IsLeastBound h.tables (roots_of h) (cuts_of n h) least
-least_bound n h least none some bound = bound_is_least h (cuts_of n h) least (no_cuts n h none) (first_bound h some ∙ sym bound)
+pub roots_kinds : (tables ts : List Table) (roots rs : List ℕ) → ts ≡ tables → rs ≡ roots → AreRoots tables roots → All (λ k. (table_at ts k).kind ≡ Root) rs
+roots_kinds tables ts roots rs same equal are = λ k d within. (roots_as tables ts roots rs same equal are k d within).1

@@ -1,5 +1,6 @@
 pub mod Faults
 pub mod Frames
+pub mod Arrivals
 pub mod Keeping
 pub mod Checking
 pub mod Refusals

@@ -3,6 +3,7 @@ ghost use Rattle.std.specs.Prelude.{◌≡◌, ◌≤◌, ◌+◌, ◌-◌, ◌^
 ghost use Rattle.service_model.specs.declared.cert.Item.{Item};
 
 use crate::came::Came;
+use crate::keep::keep;
 use crate::rules::Rules;
 use service_model::{Item, Network, NoMemory, Plan, TakeStop, Taker, Verdict};
 use std::alloc::Global;
@@ -27,7 +28,7 @@ impl<'a> Model for Checker<'a> {
 
     ghost Value = { Checking };
 
-    ghost view = { λ c. record { network = c.rules; held = c.came; fault = c.fault; stops = c.stops } };
+    ghost view = { λ c. record { network = c.rules; held = c.came.held; fault = c.fault; stops = c.stops } };
 
     ghost invariant = { λ c. IsChecking c.rules c.came c.found c.fault c.stops };
 }
@@ -35,7 +36,7 @@ impl<'a> Model for Checker<'a> {
 impl<'a> Checker<'a> {
     ghost use Rattle.service_model.specs.Verdicts.{IsTrueOf};
     ghost use Rattle.service_model.specs.Held.{held_with};
-    ghost use Rattle.cert_check.specs.Keeping.{IsPassed};
+    ghost use Rattle.service_model.specs.CertRules.{Keeps};
     ghost use Rattle.cert_check.specs.Checking.{new_checking, Takes};
 
     /// A checker to which nothing came.
@@ -69,17 +70,19 @@ impl<'a> Checker<'a> {
         self.came.into_verdict()
     }
 
-    // Keeps an item that passed.
+    // Keeps an item on which no rule fails.
     fn keep(&mut self, item: &Item) -> Result<(), NoMemory>
-        requires { IsPassed self.old.network self.old.held item.now }
+        requires { Keeps self.old.network self.old.held item.now }
         ensures ok { OnOk result (self.new ≡ record self.old { held = held_with self.old.held item.now }) }
         ensures err { OnErr result (self.new ≡ self.old) }
     {
-        let later = self.rules.found_in(self.alloc, item)?;
-        let copied = item.copy(self.alloc)?;
-        self.came.add(copied)?;
-        self.rules.keep_better(&mut self.found, later);
-        Ok(())
+        keep(
+            &self.rules,
+            self.alloc,
+            &mut self.came,
+            &mut self.found,
+            item,
+        )
     }
 
     // Refuses a take by this rule.

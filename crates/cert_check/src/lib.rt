@@ -5,6 +5,7 @@ mod bytes;
 mod came;
 mod check_fault;
 mod checker;
+mod keep;
 mod laws;
 mod numbers;
 mod rules;

@@ -1,23 +1,29 @@
 // A network, and what the rules on items are decided by.
-ghost use Rattle.std.specs.Prelude.{◌≡◌, Option, IfOk, IfSome};
-ghost use Rattle.service_model.specs.declared.cert.Item.TheVariants.{Node as NodeItem, End as EndItem};
+ghost use Rattle.std.specs.Prelude.{◌≡◌, ◌<◌, ◌+◌, ◌*◌, Option, IfOk, IfSome, length};
+ghost use Rattle.service_model.specs.declared.cert.Item.TheVariants.{Node as NodeItem, Split as SplitItem, End as EndItem};
 ghost use Rattle.service_model.specs.declared.plan.Plan.{Plan};
 ghost use Rattle.service_model.specs.Plans.{Feasible};
 ghost use Rattle.service_model.specs.Faults.{IsNetwork};
 ghost use Rattle.service_model.specs.CertNumbers.{TableInRange};
-ghost use Rattle.service_model.specs.Repairs.{better};
-ghost use Rattle.service_model.specs.CertRules.{TableRule, NodeRule, EndRule, IsFirstOf};
-ghost use Rattle.cert_check.specs.Faults.{IsPlaced};
+ghost use Rattle.service_model.specs.Held.{relaxed_at, cuts_of, range_of};
+ghost use Rattle.service_model.specs.Repairs.{FoundOf, better};
+ghost use Rattle.service_model.specs.CertRules.{TableRule, NodeRule, SplitRule, EndRule, Keeps, IsFirstOf};
+ghost use Rattle.split_rules.specs.Halves.{AreHalves};
+ghost use Rattle.split_rules.specs.Leaves.{AreNodesComplete, IsNextOf};
+ghost use Rattle.cert_check.specs.Faults.{IsPlaced, IsFaultOf};
 ghost use Rattle.cert_check.specs.Frames.{HeadRule};
-ghost use Rattle.cert_check.specs.Keeping.{IsKept, IsAnswer, FoundIn};
+ghost use Rattle.cert_check.specs.Arrivals.{IsRangeOf};
+ghost use Rattle.cert_check.specs.Keeping.{IsKept};
 
 use crate::came::Came;
 use end_rules::{end_fault, found_of, keep_better};
-use node_rules::{node_bound, node_fault};
+use node_rules::node_fault;
 use service_model::cert_rules::NETWORK;
 use service_model::{
-    Head, Item, List, Network, NoMemory, Node, Plan, Range, Table, Verdict, topological_order,
+    Head, Item, List, Network, NoMemory, Node, Plan, Range, Split, Table, Verdict,
+    topological_order,
 };
+use split_rules::{Halves, Leaf, Next, halves_of, split_fault};
 use std::alloc::Global;
 use std::marker::Model;
 use table_rules::{Scratch, most_floor, table_fault};
@@ -74,7 +80,7 @@ impl<'a> Rules<'a> {
     fn table_fault(&mut self, came: &Came, table: &Table) -> Option<u8>
         requires kept { (found : Option Plan) × IsKept self.old came.now found }
         requires numbers { TableInRange table.now }
-        ensures first { IsFirstOf (TableRule self.old came.now.tables table.now) result }
+        ensures first { IsFirstOf (TableRule self.old came.now.held.tables table.now) result }
         ensures same { self.new ≡ self.old }
     {
         table_fault(
@@ -86,15 +92,32 @@ impl<'a> Rules<'a> {
         )
     }
 
+    // The range of a node that came, or that comes behind the splits.
+    fn range<'b>(&'b self, came: &'b Came, node: usize) -> &'b Range
+        requires kept { (found : Option Plan) × IsKept self.now came.now found }
+        requires there { node < 2 * length came.now.held.splits + 1 }
+        ensures { IsRangeOf self.now (cuts_of self.now came.now.held) node result.now }
+    {
+        if node == 0 {
+            return &self.whole;
+        }
+        let halves = came.halves((node - 1) / 2);
+        if node % 2 == 1 {
+            &halves.left
+        } else {
+            &halves.right
+        }
+    }
+
     fn node_fault(&self, alloc: Global, came: &Came, node: &Node) -> Result<Option<u8>, NoMemory>
         requires kept { (found : Option Plan) × IsKept self.now came.now found }
-        requires placed { IsPlaced self.now came.now (NodeItem node.now) }
-        ensures { IfOk result (IsFirstOf (NodeRule self.now came.now node.now)) }
+        requires placed { IsPlaced self.now came.now.held (NodeItem node.now) }
+        ensures { IfOk result (IsFirstOf (NodeRule self.now came.now.held node.now)) }
     {
         node_fault(
             alloc,
             self.network,
-            &self.whole,
+            self.range(came, came.node_count()),
             came.budget(),
             came.node_count(),
             came.tables(),
@@ -102,19 +125,48 @@ impl<'a> Rules<'a> {
         )
     }
 
-    // No split came, so the first node is the only leaf.
+    // The leaf that is split next. There is one where no node is missing.
+    fn next_leaf(&self, came: &Came) -> Leaf
+        requires kept { (found : Option Plan) × IsKept self.now came.now found }
+        requires complete { AreNodesComplete came.now.held }
+        ensures { IsNextOf self.now came.now.held result }
+    {
+        match came.leaves().next() {
+            Some(leaf) => leaf,
+            None => unreachable!(),
+        }
+    }
+
+    fn split_fault(
+        &self,
+        alloc: Global,
+        came: &Came,
+        found: &Option<Plan>,
+        split: Split,
+    ) -> Result<Option<u8>, NoMemory>
+        requires kept { IsKept self.now came.now found.now }
+        requires placed { IsPlaced self.now came.now.held (SplitItem split) }
+        ensures { IfOk result (IsFirstOf (SplitRule self.now came.now.held split)) }
+    {
+        let leaf = self.next_leaf(came);
+        let next = Next {
+            leaf,
+            node: came.node(leaf.node as usize),
+            range: self.range(came, leaf.node as usize),
+        };
+        split_fault(alloc, self.network, next, came.tables(), found, split)
+    }
+
     fn end_fault(&self, came: &Came, found: &Option<Plan>, verdict: &Verdict) -> Option<u8>
         requires kept { IsKept self.now came.now found.now }
-        requires placed { IsPlaced self.now came.now (EndItem verdict.now) }
-        ensures { IsFirstOf (EndRule self.now came.now verdict.now) result }
+        requires placed { IsPlaced self.now came.now.held (EndItem verdict.now) }
+        ensures { IsFirstOf (EndRule self.now came.now.held verdict.now) result }
     {
-        let first = came.first_node();
-        let least = node_bound(came.tables(), first.roots.as_slice());
         end_fault(
             self.network,
             came.budget(),
             came.node_count(),
-            least,
+            self.next_leaf(came).bound,
             found,
             verdict,
         )
@@ -130,20 +182,20 @@ impl<'a> Rules<'a> {
         item: &Item,
     ) -> Result<Option<u8>, NoMemory>
         requires kept { IsKept self.old came.now found.now }
-        requires placed { IsPlaced self.old came.now item.now }
-        ensures first { IfOk result (IsAnswer self.old came.now item.now) }
+        requires placed { IsPlaced self.old came.now.held item.now }
+        ensures first { IfOk result (IsFaultOf self.old came.now.held item.now) }
         ensures same { self.new ≡ self.old }
     {
         match item {
             Item::Head(head) => Ok(self.head_fault(head)),
             Item::Table(table) => Ok(self.table_fault(came, table)),
             Item::Node(node) => self.node_fault(alloc, came, node),
-            Item::Split(_) => Err(NoMemory),
+            Item::Split(split) => self.split_fault(alloc, came, found, *split),
             Item::End(verdict) => Ok(self.end_fault(came, found, verdict)),
         }
     }
 
-    /// The first rule that fails on the item behind those that came, none where it passes.
+    /// The first rule that fails on the item behind those that came, none where all hold.
     pub(crate) fn item_fault(
         &mut self,
         alloc: Global,
@@ -152,7 +204,7 @@ impl<'a> Rules<'a> {
         item: &Item,
     ) -> Result<Option<u8>, NoMemory>
         requires kept { IsKept self.old came.now found.now }
-        ensures first { IfOk result (IsAnswer self.old came.now item.now) }
+        ensures first { IfOk result (IsFaultOf self.old came.now.held item.now) }
         ensures same { self.new ≡ self.old }
     {
         if let Some(rule) = came.frame_fault(item) {
@@ -161,17 +213,36 @@ impl<'a> Rules<'a> {
         self.kind_fault(alloc, came, found, item)
     }
 
-    /// The plan that an item's relaxed plan finds, none where the item is no node.
-    pub(crate) fn found_in(&self, alloc: Global, item: &Item) -> Result<Option<Plan>, NoMemory>
-        ensures { IfOk result (FoundIn self.now item.now) }
+    /// The halves of the range of a split's node.
+    pub(crate) fn halves(
+        &self,
+        alloc: Global,
+        came: &Came,
+        split: Split,
+    ) -> Result<Halves, NoMemory>
+        requires kept { (found : Option Plan) × IsKept self.now came.now found }
+        requires keeps { Keeps self.now came.now.held (SplitItem split) }
+        ensures { IfOk result (AreHalves self.now (range_of self.now came.now.held split.node) (relaxed_at came.now.held.nodes split.node) split) }
     {
-        match item {
-            Item::Node(node) => found_of(alloc, self.network, &self.order, &node.relaxed),
-            _ => Ok(None),
+        let range = self.range(came, split.node as usize);
+        match &came.node(split.node as usize).relaxed {
+            Some(plan) => halves_of(alloc, self.network, range, plan, split),
+            None => unreachable!(),
         }
     }
 
-    /// Keeps the better one of the plan found so far and that of an item that passed.
+    /// The plan that a node's relaxed plan finds.
+    pub(crate) fn found_of(
+        &self,
+        alloc: Global,
+        relaxed: &Option<Plan>,
+    ) -> Result<Option<Plan>, NoMemory>
+        ensures { IfOk result (FoundOf self.now relaxed.now) }
+    {
+        found_of(alloc, self.network, &self.order, relaxed)
+    }
+
+    /// Keeps the better one of the plan found so far and that of a node.
     pub(crate) fn keep_better(&self, found: &mut Option<Plan>, later: Option<Plan>)
         requires found { IfSome found.old (Feasible self.now) }
         requires later { IfSome later (Feasible self.now) }

@@ -64,7 +64,7 @@ cuts_agree n xs ys (s ∷ splits) same =
     cc
 
 -- one node more leaves the cuts
-same_cuts : (n : Net) (h : Held) (x : Node) → All (λ s. s.node < length h.nodes) h.splits → cuts_of n (held_with h (NodeItem x)) ≡ cuts_of n h
+pub same_cuts : (n : Net) (h : Held) (x : Node) → All (λ s. s.node < length h.nodes) h.splits → cuts_of n (held_with h (NodeItem x)) ≡ cuts_of n h
 same_cuts n h x named =
     cuts_agree n (h.nodes ++ x ∷ []) h.nodes h.splits
     (each (λ s. s.node < length h.nodes) (λ s. node_at (h.nodes ++ x ∷ []) s.node ≡ node_at h.nodes s.node)

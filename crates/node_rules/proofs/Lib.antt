@@ -1,3 +1,3 @@
-mod FitFacts
+pub mod FitFacts
 mod MarkFacts
-mod WalkFacts
+pub mod WalkFacts

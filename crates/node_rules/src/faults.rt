@@ -9,7 +9,7 @@ ghost use Rattle.node_rules.specs.Faults.{IsBelowFault};
 
 use crate::fits::{Floored, all_fit, all_fit_below};
 use crate::roots::are_roots;
-use crate::walk::walk;
+use crate::walks::walk;
 use service_model::cert_rules::{BUDGET, FITS, RELAXED, ROOT, STAGE_TWICE};
 use service_model::{Network, NoMemory, Node, Plan, Range, Table};
 use std::alloc::Global;

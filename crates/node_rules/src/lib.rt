@@ -9,7 +9,9 @@ mod roots;
 mod tables;
 #[cfg(test)]
 mod tests;
-mod walk;
+mod walks;
 
 pub use bound::node_bound;
 pub use faults::node_fault;
+pub use tables::table_in;
+pub use walks::walk;

@@ -1,10 +1,14 @@
 -- The leaves of a certificate's nodes so far, and the one that is split next.
-use Rattle.std.specs.Prelude.{◌≡◌, ◌≢◌, ◌↔◌, ℕ, ◌+◌, ◌*◌, ◌<◌, List, length, All, Contains}
+use Rattle.std.specs.Prelude.{◌≡◌, ◌≢◌, ◌⊎◌, ◌↔◌, ◌+◌, ◌*◌, ◌<◌, List, length, All, Contains}
 use Rattle.service_model.specs.Net.{Net}
 use Rattle.service_model.specs.Verdicts.{IsLeastBound}
 use Rattle.service_model.specs.Held.{Held, cuts_of, roots_of, bound_at}
 use Rattle.service_model.specs.Earned.{IsNext}
 use Rattle.split_rules.specs.declared.leaves.Leaf.{Leaf}
+
+-- the leaf a comes before the leaf b: its bound is less, or equal and its number is lower
+abbrev pub IsBefore : Leaf → Leaf → Type 0
+IsBefore a b = (a.bound < b.bound) ⊎ ((a.bound ≡ b.bound) × (a.node < b.node))
 
 -- these are the nodes that came and that no split names, each with its bound
 abbrev pub AreLeaves : Held → List Leaf → Type 0

@@ -1,2 +1,5 @@
-pub mod Leaves
+pub mod Arcs
 pub mod Halves
+pub mod Leaves
+pub mod Links
+pub mod Relaxed

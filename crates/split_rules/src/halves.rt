@@ -4,6 +4,7 @@ ghost use Rattle.service_model.specs.Plans.{HasTimes};
 ghost use Rattle.service_model.specs.Tables.{Supplies};
 ghost use Rattle.service_model.specs.Ranges.{HasIntervals, HoldsTime};
 
+use crate::arcs::last_of;
 use service_model::{Network, NoMemory, Plan, Range, Split};
 use std::alloc::Global;
 
@@ -34,5 +35,10 @@ pub fn halves_of(
     requires next { HoldsTime range.now split.supplier (last_of network.now plan.now split + 1) }
     ensures { IfOk result (AreHalves network.now range.now plan.now split) }
 {
-    Err(NoMemory)
+    let last = last_of(network, plan, split);
+    let mut left = range.copy(alloc)?;
+    left.halve(split.supplier, last, false);
+    let mut right = range.copy(alloc)?;
+    right.halve(split.supplier, last, true);
+    Ok(Halves { left, right })
 }

@@ -1,5 +1,5 @@
 // The leaves of a certificate's nodes.
-ghost use Rattle.std.specs.Prelude.{◌≡◌, ◌≢◌, ◌⊎◌, ◌↔◌, Contains, [], OnOk, OnErr, IfSome, IfNone};
+ghost use Rattle.std.specs.Prelude.{◌≡◌, ◌≢◌, ◌⊎◌, ◌↔◌, All, Contains, [], OnOk, OnErr, IfSome, IfNone};
 
 use service_model::NoMemory;
 use std::alloc::Global;
@@ -34,7 +34,7 @@ impl Leaves {
     ghost use Rattle.service_model.specs.Net.{Net};
     ghost use Rattle.service_model.specs.Held.{Held};
     ghost use Rattle.split_rules.specs.declared.leaves.Leaf.{Leaf};
-    ghost use Rattle.split_rules.specs.Leaves.{AreLeaves, AreNodesComplete, IsNextOf};
+    ghost use Rattle.split_rules.specs.Leaves.{IsBefore, AreLeaves, AreNodesComplete, IsNextOf};
 
     /// No leaves.
     pub fn new(alloc: Global) -> Leaves
@@ -64,6 +64,15 @@ impl Leaves {
     /// The leaf that is split next: that of least bound, the lowest number among equals.
     pub fn next(&self) -> Option<Leaf>
         ensures next { (n : Net) → (h : Held) → AreLeaves h self.now → AreNodesComplete h → IfSome result (IsNextOf n h) }
+        ensures none { IfNone result (self.now ≡ []) }
+    {
+        self.first()
+    }
+
+    // The first of the leaves in their order.
+    fn first(&self) -> Option<Leaf>
+        ensures there { IfSome result (Contains self.now) }
+        ensures least { IfSome result (λ leaf. All (λ q. ¬ IsBefore q leaf) self.now) }
         ensures none { IfNone result (self.now ≡ []) }
     {
         self.leaves.first().copied()
