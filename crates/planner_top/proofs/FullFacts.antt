@@ -17,7 +17,7 @@ use Rattle.service_model.specs.CertRules.{EndsAsTold}
 use Rattle.service_model.specs.Certs.{AllKeep}
 use Rattle.cert_laws.proofs.KeptFacts.{AllKeep-parts}
 use Rattle.tree_order.specs.declared.forest.Forest.{Forest}
-use Rattle.search_laws.specs.Own.{shown_by, IsOwn}
+use Rattle.search_laws.specs.Own.{IsOwn}
 use Rattle.search_laws.proofs.ShownFacts.{shown_after}
 
 full_as : (o : Outcome) (n : Net) (found : Option Plan) (least nodes budget bound : ℕ) → o ≡ outcome.Spent → EndsWith o n found least nodes budget bound → budget < nodes + 2

@@ -1,5 +1,5 @@
 -- What a search's certificate says of the answer.
-use Rattle.std.proofs.Common.{◌≡◌, ◌<◌, ◌≤◌, ℕ, ◌+◌, List, [], length, Option, Some, None, Result, Ok, Err, refl, sym, ap, subst, ◌∙◌}
+use Rattle.std.proofs.Common.{◌≡◌, ◌<◌, ◌≤◌, ℕ, ◌+◌, [], length, Option, Some, None, Result, Ok, Err, refl, ap, ◌∙◌}
 use Rattle.std.specs.Prelude.{IfSome, IfOk}
 use Rattle.service_model.specs.declared.plan.Plan.{Plan}
 use Rattle.service_model.specs.declared.cert.Cert.{Cert}
