@@ -18,7 +18,6 @@ use Rattle.network_check.specs.Checked.{IsNetworkOf, IsChecked}
 use Rattle.network_check.specs.Refusals.{IsFirstTogether, RecordsCase}
 use Rattle.planner_top.specs.declared.command.Command.{Command}
 use Rattle.planner_top.specs.declared.command.Command.TheVariants as command
-use Rattle.planner_top.specs.declared.asked.Terms.{Terms}
 use Rattle.planner_top.specs.declared.contents.Contents.{Contents}
 use Rattle.planner_top.specs.declared.files.TheConstants.{CERT_LIMIT}
 use Rattle.planner_top.specs.declared.task.Task.{Task}
@@ -30,54 +29,54 @@ use Rattle.planner_top.specs.Tasks.{files_in, raw_in, IsLastFault, TaskCase, Tog
 use Rattle.planner_top.proofs.TaskFacts.{plan_has_times}
 
 -- a rule on one file fails
-pub raw_refused : (c : Command) (terms : Terms) (horizon : ℕ) (contents : Contents) (files : Files) (f : ReadFault) → files ≡ files_in contents → Reads (raw_fault horizon files) (raw_of horizon files) (Err f) → TaskCase c terms horizon contents (Err (unsolved_by f))
-raw_refused c terms horizon contents files (read.Fault fault) same is = (let fails : raw_fault horizon (files_in contents) ≡ Some fault = ap (raw_fault horizon) (sym same) ∙ is in (Some fault, rw fails refl, refl))
-raw_refused c terms horizon contents files read.NoMemory same is = tt
+pub raw_refused : (c : Command) (ranges : Option ℕ) (horizon : ℕ) (contents : Contents) (files : Files) (f : ReadFault) → files ≡ files_in contents → Reads (raw_fault horizon files) (raw_of horizon files) (Err f) → TaskCase c ranges horizon contents (Err (unsolved_by f))
+raw_refused c ranges horizon contents files (read.Fault fault) same is = (let fails : raw_fault horizon (files_in contents) ≡ Some fault = ap (raw_fault horizon) (sym same) ∙ is in (Some fault, rw fails refl, refl))
+raw_refused c ranges horizon contents files read.NoMemory same is = tt
 
 -- a rule on the records together fails
-pub records_refused : (c : Command) (terms : Terms) (raw : RawNet) (further : List ℕ) (f : ReadFault) → RecordsCase raw (Err f) → TogetherCase c terms raw further (Err (unsolved_by f))
-records_refused c terms raw further (read.Fault fault) is = (Some fault, is, refl)
-records_refused c terms raw further read.NoMemory is = tt
+pub records_refused : (c : Command) (ranges : Option ℕ) (raw : RawNet) (further : List ℕ) (f : ReadFault) → RecordsCase raw (Err f) → TogetherCase c ranges raw further (Err (unsolved_by f))
+records_refused c ranges raw further (read.Fault fault) is = (Some fault, is, refl)
+records_refused c ranges raw further read.NoMemory is = tt
 
 -- none does
-pub records_made : (c : Command) (terms : Terms) (raw : RawNet) (further : List ℕ) (r : Result Task Unsolved) → IsFirstTogether raw None → LastCase c terms raw further r → TogetherCase c terms raw further r
-records_made c terms raw further (Ok t) none is = (none, is.0, is.1, is.2)
-records_made c terms raw further (Err (unsolved.Stop (stop.Refused fault))) none is = (None, none, is)
-records_made c terms raw further (Err (unsolved.Stop (stop.Words fault))) none is = absurd is
-records_made c terms raw further (Err (unsolved.Stop (stop.TooLong word))) none is = absurd is
-records_made c terms raw further (Err (unsolved.Fault word)) none is = absurd is
-records_made c terms raw further (Err unsolved.NoMemory) none is = tt
+pub records_made : (c : Command) (ranges : Option ℕ) (raw : RawNet) (further : List ℕ) (r : Result Task Unsolved) → IsFirstTogether raw None → LastCase c ranges raw further r → TogetherCase c ranges raw further r
+records_made c ranges raw further (Ok t) none is = (none, is.0, is.1, is.2)
+records_made c ranges raw further (Err (unsolved.Stop (stop.Refused fault))) none is = (None, none, is)
+records_made c ranges raw further (Err (unsolved.Stop (stop.Words fault))) none is = absurd is
+records_made c ranges raw further (Err (unsolved.Stop (stop.TooLong word))) none is = absurd is
+records_made c ranges raw further (Err (unsolved.Fault word)) none is = absurd is
+records_made c ranges raw further (Err unsolved.NoMemory) none is = tt
 
-behind : (c : Command) (terms : Terms) (raw : RawNet) (further : List ℕ) (fault : FileFault) (before : Option FileFault)
-    → MatchOption before (IsLastFault c terms raw further (Some fault)) (λ f. fault ≡ f) → MatchOption before (IsLastFault c terms raw further (Some fault)) (λ f. (let some : Option FileFault = Some fault in some ≡ Some f))
-behind c terms raw further fault None is = is
-behind c terms raw further fault (Some f) is = ap Some is
+behind : (c : Command) (ranges : Option ℕ) (raw : RawNet) (further : List ℕ) (fault : FileFault) (before : Option FileFault)
+    → MatchOption before (IsLastFault c ranges raw further (Some fault)) (λ f. fault ≡ f) → MatchOption before (IsLastFault c ranges raw further (Some fault)) (λ f. (let some : Option FileFault = Some fault in some ≡ Some f))
+behind c ranges raw further fault None is = is
+behind c ranges raw further fault (Some f) is = ap Some is
 
 -- the records are those of files
-pub task_found : (c : Command) (terms : Terms) (horizon : ℕ) (contents : Contents) (raw : RawNet) (r : Result Task Unsolved) → raw_fault horizon (files_in contents) ≡ None → raw ≡ raw_in horizon contents
-    → TogetherCase c terms raw contents.further r → TaskCase c terms horizon contents r
-task_found c terms horizon contents raw r none same is = from r (subst (λ (x : RawNet). TogetherCase c terms x contents.further r) same is)
+pub task_found : (c : Command) (ranges : Option ℕ) (horizon : ℕ) (contents : Contents) (raw : RawNet) (r : Result Task Unsolved) → raw_fault horizon (files_in contents) ≡ None → raw ≡ raw_in horizon contents
+    → TogetherCase c ranges raw contents.further r → TaskCase c ranges horizon contents r
+task_found c ranges horizon contents raw r none same is = from r (subst (λ (x : RawNet). TogetherCase c ranges x contents.further r) same is)
   where
-    from : (r : Result Task Unsolved) → TogetherCase c terms (raw_in horizon contents) contents.further r → TaskCase c terms horizon contents r
+    from : (r : Result Task Unsolved) → TogetherCase c ranges (raw_in horizon contents) contents.further r → TaskCase c ranges horizon contents r
     from (Ok t) is = (((None, rw none is.0, is.1), is.2), is.3)
-    from (Err (unsolved.Stop (stop.Refused fault))) is = (is.0, rw none is.1, behind c terms (raw_in horizon contents) contents.further fault is.0 is.2)
+    from (Err (unsolved.Stop (stop.Refused fault))) is = (is.0, rw none is.1, behind c ranges (raw_in horizon contents) contents.further fault is.0 is.2)
     from (Err (unsolved.Stop (stop.Words fault))) is = absurd is
     from (Err (unsolved.Stop (stop.TooLong word))) is = absurd is
     from (Err (unsolved.Fault word)) is = absurd is
     from (Err unsolved.NoMemory) is = tt
 
 -- a plan that was read is audited
-pub audit_last : (terms : Terms) (raw : RawNet) (further : List ℕ) (c : Checked) (plan : Plan) → IsNetworkOf raw c → IsChecked c
-    → Reads (plan_file_fault (names_of raw.stages) (rows_of_bytes further)) (plan_of (names_of raw.stages) (rows_of_bytes further)) (Ok plan) → LastCase command.Audit terms raw further (Ok (task.Audit c plan))
-audit_last terms raw further c plan made checked is =
+pub audit_last : (ranges : Option ℕ) (raw : RawNet) (further : List ℕ) (c : Checked) (plan : Plan) → IsNetworkOf raw c → IsChecked c
+    → Reads (plan_file_fault (names_of raw.stages) (rows_of_bytes further)) (plan_of (names_of raw.stages) (rows_of_bytes further)) (Ok plan) → LastCase command.Audit ranges raw further (Ok (task.Audit c plan))
+audit_last ranges raw further c plan made checked is =
     (sym is.0, (made, is.1), (checked, subst (λ (p : Plan). HasTimes c.network p) (sym is.1) (plan_has_times raw c (rows_of_bytes further) made checked)))
 
 -- the certificate of a network is checked
-pub check_last : (terms : Terms) (raw : RawNet) (further : List ℕ) (c : Checked) → IsNetworkOf raw c → IsChecked c → length further ≤ CERT_LIMIT → LastCase command.Check terms raw further (Ok (task.Check c further))
-check_last terms raw further c made checked short = (refl, (made, refl), (checked, short))
+pub check_last : (ranges : Option ℕ) (raw : RawNet) (further : List ℕ) (c : Checked) → IsNetworkOf raw c → IsChecked c → length further ≤ CERT_LIMIT → LastCase command.Check ranges raw further (Ok (task.Check c further))
+check_last ranges raw further c made checked short = (refl, (made, refl), (checked, short))
 
 -- a rule on the plan file fails
-pub audit_refused : (terms : Terms) (raw : RawNet) (further : List ℕ) (f : ReadFault)
-    → Reads (plan_file_fault (names_of raw.stages) (rows_of_bytes further)) (plan_of (names_of raw.stages) (rows_of_bytes further)) (Err f) → LastCase command.Audit terms raw further (Err (unsolved_by f))
-audit_refused terms raw further (read.Fault fault) is = sym is
-audit_refused terms raw further read.NoMemory is = tt
+pub audit_refused : (ranges : Option ℕ) (raw : RawNet) (further : List ℕ) (f : ReadFault)
+    → Reads (plan_file_fault (names_of raw.stages) (rows_of_bytes further)) (plan_of (names_of raw.stages) (rows_of_bytes further)) (Err f) → LastCase command.Audit ranges raw further (Err (unsolved_by f))
+audit_refused ranges raw further (read.Fault fault) is = sym is
+audit_refused ranges raw further read.NoMemory is = tt

@@ -140,6 +140,7 @@ solved_exactly c f budget e rows filled cert is =
       own = is.own;
       spent = same;
       full = is.full same;
+      short = is.short same;
       below = spent_below v.outcome c.network v.bound v.plan same is.true_verdict;
     }))
 

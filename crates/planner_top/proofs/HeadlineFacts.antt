@@ -1,6 +1,5 @@
 -- The promise of the top call follows from what each status says.
-use Rattle.std.proofs.Common.{◌≡◌, ◌⊎◌, Option, Some, None, refl, sym, ◌∙◌, subst, arith, inl, inr}
-use Rattle.gsm_outside.specs.Causes.{Rose}
+use Rattle.std.proofs.Common.{◌≡◌, Option, Some, None, refl, sym, ◌∙◌, subst, arith, inl, inr}
 use Rattle.planner_top.specs.Asked.{cert_name}
 use Rattle.planner_top.specs.Certificates.{KeepsOthers}
 use Rattle.planner_top.specs.Runs.{Run, IsLater, Answered, status_of, StatusCase, FailedWrite}

@@ -1,5 +1,5 @@
 -- What a search's certificate says of the answer.
-use Rattle.std.proofs.Common.{◌≡◌, ◌<◌, ℕ, ◌+◌, List, [], length, Option, Some, None, Result, Ok, Err, refl, sym, ap, subst, ◌∙◌}
+use Rattle.std.proofs.Common.{◌≡◌, ◌<◌, ◌≤◌, ℕ, ◌+◌, [], length, Option, Some, None, Result, Ok, Err, refl, ap, ◌∙◌}
 use Rattle.std.specs.Prelude.{IfSome, IfOk}
 use Rattle.service_model.specs.declared.plan.Plan.{Plan}
 use Rattle.service_model.specs.declared.cert.Cert.{Cert}
@@ -10,7 +10,8 @@ use Rattle.service_model.specs.Net.{Net}
 use Rattle.service_model.specs.Plans.{Feasible}
 use Rattle.service_model.specs.Verdicts.{TrueAs, IsTrueOf}
 use Rattle.tree_order.specs.declared.forest.Forest.{Forest}
-use Rattle.range_branch.specs.Own.{IsOwn}
+use Rattle.search_laws.specs.Own.{IsOwn}
+use Rattle.search_laws.specs.Enough.{enough_of}
 use Rattle.range_branch.specs.Solutions.{Solves}
 use Rattle.network_check.specs.declared.checked.Checked.{Checked}
 use Rattle.cert_check.specs.Bytes.{IsAcceptedBytes}
@@ -35,11 +36,14 @@ true_feasible n v is = feasible_as v.outcome n v.bound v.plan is
 pub record IsSearched (n : Net) (f : Forest) (budget filled : ℕ) (x : Cert) : Type 0 where
   pub own : IsOwn n f budget x
   pub true_verdict : IsTrueOf n x.verdict
-  pub full : x.verdict.outcome ≡ outcome.Spent → budget < length x.nodes + 2
   pub filled_is : filled ≡ length x.tables
+  pub accepted : IsAcceptedBytes n (cert_bytes x) x.verdict
+  pub nodes : length x.nodes ≤ enough_of n f
+  pub full : x.verdict.outcome ≡ outcome.Spent → budget < length x.nodes + 2
+  pub short : x.verdict.outcome ≡ outcome.Spent → budget < enough_of n f
   pub solved : f.dropped ≡ [] → Solves n x.verdict
   pub one : f.dropped ≡ [] → length x.nodes ≡ 1
-  pub accepted : f.dropped ≡ [] → IsAcceptedBytes n (cert_bytes x) x.verdict
+  pub stages : f.dropped ≡ [] → length x.tables ≡ length n.stages
 
 -- the answer that its certificate shows is the solution
 pub solution_shown : {E : Type 0} (r : Result Answer E) (c : Checked) (f : Forest) (budget filled : ℕ) (x : Cert) → IsSearched c.network f budget filled x
@@ -53,9 +57,12 @@ solution_shown (Ok a) c f budget filled x is ending rows cert = record {
   ending_is = ending;
   rows_are = rows;
   filled_is = is.filled_is;
-  full = is.full;
-  solved = is.solved;
-  one = is.one;
   cert_is = ap bytes_in cert;
   accepted = is.accepted;
+  nodes = is.nodes;
+  full = is.full;
+  short = is.short;
+  solved = is.solved;
+  one = is.one;
+  stages = λ tree. is.filled_is ∙ is.stages tree;
 }

@@ -1,11 +1,10 @@
 -- What words and files ask to be done is one thing.
-use Rattle.std.proofs.Common.{◌≡◌, ℕ, List, [], ◌∷◌, length, Option, Some, None, Result, Ok, Err, refl, sym, subst, ap, ◌∙◌}
+use Rattle.std.proofs.Common.{◌≡◌, ℕ, List, length, Option, Some, None, Result, Ok, Err, refl, sym, subst, ap, ◌∙◌}
 use Rattle.std.specs.Option.{MatchOption}
 use Rattle.std.specs.Result.{MatchResult}
 use Rattle.std.proofs.lemmas.List.{length-map}
 use Rattle.service_model.specs.declared.stage.SupplyArc.{SupplyArc}
 use Rattle.service_model.specs.Plans.{HasTimes}
-use Rattle.service_model.specs.Search.{first_of}
 use Rattle.stage_file.specs.declared.stages.StageRow.{StageRow}
 use Rattle.stage_file.specs.declared.raw.Files.{Files}
 use Rattle.stage_file.specs.declared.raw.RawNet.{RawNet}
@@ -23,7 +22,6 @@ use Rattle.network_check.specs.Refusals.{IsFirstTogether, IsFirstRefusal}
 use Rattle.network_check.proofs.RefusalLaws.{raw_within, one_refusal, one_network_of}
 use Rattle.planner_top.specs.declared.command.Command.{Command}
 use Rattle.planner_top.specs.declared.command.Command.TheVariants as command
-use Rattle.planner_top.specs.declared.asked.Terms.{Terms}
 use Rattle.planner_top.specs.declared.contents.Contents.{Contents}
 use Rattle.planner_top.specs.declared.word_fault.WordFault.{WordFault}
 use Rattle.planner_top.specs.declared.task.Task.{Task}
@@ -31,33 +29,29 @@ use Rattle.planner_top.specs.declared.task.Task.TheVariants as task
 use Rattle.planner_top.specs.declared.stop.FileWord.{FileWord}
 use Rattle.planner_top.specs.declared.stop.Stop.{Stop}
 use Rattle.planner_top.specs.declared.stop.Stop.TheVariants as stop
-use Rattle.planner_top.specs.Asked.{Asked, asked_of, terms_of}
+use Rattle.planner_top.specs.Asked.{Asked, asked_of}
 use Rattle.planner_top.specs.Contents.{too_long_of, contents_of}
-use Rattle.planner_top.specs.Tasks.{files_in, budget_fault, shown_fault, raw_in, IsForestIn, IsLastFault, IsTaskFrom, IsFirstRefused, IsTask}
+use Rattle.planner_top.specs.Tasks.{files_in, raw_in, IsForestIn, IsLastFault, IsTaskFrom, IsFirstRefused, IsTask}
 use Rattle.planner_top.specs.Problems.{IsTaskOf}
 use Rattle.planner_top.specs.Answers.{IsAskedProblem, IsProblem}
 use Rattle.planner_top.proofs.BudgetFacts.{one_budget}
 
--- the first rule that fails on what `solve` is asked
-abbrev first_behind : Terms → RawNet → List ℕ → Option FileFault
-first_behind terms raw dropped = first_of (budget_fault raw terms.ranges ∷ shown_fault terms.shown raw dropped ∷ [])
-
 -- the first rule that fails behind those on the network is one
-one_last : (c : Command) (terms : Terms) (raw : RawNet) (further : List ℕ) (a b : Option FileFault) → IsLastFault c terms raw further a → IsLastFault c terms raw further b → a ≡ b
-one_last command.Solve terms raw further a b is also = is.2 ∙ ap (λ (f : Forest). first_behind terms raw f.dropped) (sym (is.1.only also.0 also.1.forest)) ∙ sym also.2
-one_last command.Audit terms raw further a b is also = is ∙ sym also
-one_last command.Check terms raw further a b is also = is ∙ sym also
+one_last : (c : Command) (ranges : Option ℕ) (raw : RawNet) (further : List ℕ) (a b : Option FileFault) → IsLastFault c ranges raw further a → IsLastFault c ranges raw further b → a ≡ b
+one_last command.Solve ranges raw further a b is also = is ∙ sym also
+one_last command.Audit ranges raw further a b is also = is ∙ sym also
+one_last command.Check ranges raw further a b is also = is ∙ sym also
 
-one_behind : (c : Command) (terms : Terms) (raw : RawNet) (further : List ℕ) (before a b : Option FileFault)
-    → MatchOption before (IsLastFault c terms raw further a) (λ f. a ≡ Some f) → MatchOption before (IsLastFault c terms raw further b) (λ f. b ≡ Some f) → a ≡ b
-one_behind c terms raw further None a b is also = one_last c terms raw further a b is also
-one_behind c terms raw further (Some f) a b is also = is ∙ sym also
+one_behind : (c : Command) (ranges : Option ℕ) (raw : RawNet) (further : List ℕ) (before a b : Option FileFault)
+    → MatchOption before (IsLastFault c ranges raw further a) (λ f. a ≡ Some f) → MatchOption before (IsLastFault c ranges raw further b) (λ f. b ≡ Some f) → a ≡ b
+one_behind c ranges raw further None a b is also = one_last c ranges raw further a b is also
+one_behind c ranges raw further (Some f) a b is also = is ∙ sym also
 
-one_refused : (c : Command) (terms : Terms) (horizon : ℕ) (contents : Contents) (a b : Option FileFault) → IsFirstRefused c terms horizon contents a → IsFirstRefused c terms horizon contents b → a ≡ b
-one_refused c terms horizon contents a b is also =
+one_refused : (c : Command) (ranges : Option ℕ) (horizon : ℕ) (contents : Contents) (a b : Option FileFault) → IsFirstRefused c ranges horizon contents a → IsFirstRefused c ranges horizon contents b → a ≡ b
+one_refused c ranges horizon contents a b is also =
     let raw = raw_in horizon contents in
     let before = one_refusal horizon (files_in contents) also.0 is.0 also.1 is.1 in
-    one_behind c terms raw contents.further is.0 a b is.2 (subst (λ (x : Option FileFault). MatchOption x (IsLastFault c terms raw contents.further b) (λ f. b ≡ Some f)) before also.2)
+    one_behind c ranges raw contents.further is.0 a b is.2 (subst (λ (x : Option FileFault). MatchOption x (IsLastFault c ranges raw contents.further b) (λ f. b ≡ Some f)) before also.2)
 
 abbrev nothing : Option FileFault
 nothing = None
@@ -67,56 +61,56 @@ passes_by : (horizon : ℕ) (files : Files) (before : Option FileFault) → raw_
 passes_by horizon files None none is = (raw_within horizon files none, is)
 passes_by horizon files (Some f) some is = cc
 
-passes_behind : (c : Command) (terms : Terms) (horizon : ℕ) (contents : Contents) (before : Option FileFault) → IsFirstRefusal horizon (files_in contents) before
-    → MatchOption before (IsLastFault c terms (raw_in horizon contents) contents.further None) (λ f. nothing ≡ Some f) → IsRawNet (raw_in horizon contents) × IsFirstTogether (raw_in horizon contents) None
-passes_behind c terms horizon contents None first is = passes_by horizon (files_in contents) (raw_fault horizon (files_in contents)) refl first
-passes_behind c terms horizon contents (Some f) first is = cc
+passes_behind : (c : Command) (ranges : Option ℕ) (horizon : ℕ) (contents : Contents) (before : Option FileFault) → IsFirstRefusal horizon (files_in contents) before
+    → MatchOption before (IsLastFault c ranges (raw_in horizon contents) contents.further None) (λ f. nothing ≡ Some f) → IsRawNet (raw_in horizon contents) × IsFirstTogether (raw_in horizon contents) None
+passes_behind c ranges horizon contents None first is = passes_by horizon (files_in contents) (raw_fault horizon (files_in contents)) refl first
+passes_behind c ranges horizon contents (Some f) first is = cc
 
-one_task_from : (c : Command) (terms : Terms) (raw : RawNet) (further : List ℕ) (t u : Task) → IsRawNet raw → IsFirstTogether raw None → IsTaskFrom c terms raw further t → IsTaskFrom c terms raw further u → t ≡ u
-one_task_from command.Solve terms raw further (task.Solve d f a) (task.Solve e g b) read none is also =
+one_task_from : (c : Command) (ranges : Option ℕ) (raw : RawNet) (further : List ℕ) (t u : Task) → IsRawNet raw → IsFirstTogether raw None → IsTaskFrom c ranges raw further t → IsTaskFrom c ranges raw further u → t ≡ u
+one_task_from command.Solve ranges raw further (task.Solve d f a) (task.Solve e g b) read none is also =
     let network = one_network_of raw d e read none is.0 also.0 in
-    let budget = one_budget d.network terms.ranges a b is.2 (subst (λ (x : Checked). IsBudgetOf x.network terms.ranges (Ok b)) (sym network) also.2) in
+    let budget = one_budget d.network ranges a b is.2 (subst (λ (x : Checked). IsBudgetOf x.network ranges (Ok b)) (sym network) also.2) in
     ap (λ (x : Checked). task.Solve x f a) network ∙ ap (λ (x : Forest). task.Solve e x a) (sym (is.1.only g also.1.forest)) ∙ ap (λ (x : ℕ). task.Solve e g x) budget
-one_task_from command.Audit terms raw further (task.Audit d p) (task.Audit e q) read none is also =
+one_task_from command.Audit ranges raw further (task.Audit d p) (task.Audit e q) read none is also =
     ap (λ (x : Checked). task.Audit x p) (one_network_of raw d e read none is.0 also.0) ∙ ap (task.Audit e) (is.1 ∙ sym also.1)
-one_task_from command.Check terms raw further (task.Check d a) (task.Check e b) read none is also =
+one_task_from command.Check ranges raw further (task.Check d a) (task.Check e b) read none is also =
     ap (λ (x : Checked). task.Check x a) (one_network_of raw d e read none is.0 also.0) ∙ ap (task.Check e) (is.1 ∙ sym also.1)
-one_task_from command.Solve terms raw further (task.Audit d p) u read none is also = absurd is
-one_task_from command.Solve terms raw further (task.Check d a) u read none is also = absurd is
-one_task_from command.Audit terms raw further (task.Solve d f a) u read none is also = absurd is
-one_task_from command.Audit terms raw further (task.Check d a) u read none is also = absurd is
-one_task_from command.Check terms raw further (task.Solve d f a) u read none is also = absurd is
-one_task_from command.Check terms raw further (task.Audit d p) u read none is also = absurd is
-one_task_from command.Solve terms raw further (task.Solve d f a) (task.Audit e q) read none is also = absurd also
-one_task_from command.Solve terms raw further (task.Solve d f a) (task.Check e b) read none is also = absurd also
-one_task_from command.Audit terms raw further (task.Audit d p) (task.Solve e g b) read none is also = absurd also
-one_task_from command.Audit terms raw further (task.Audit d p) (task.Check e b) read none is also = absurd also
-one_task_from command.Check terms raw further (task.Check d a) (task.Solve e g b) read none is also = absurd also
-one_task_from command.Check terms raw further (task.Check d a) (task.Audit e q) read none is also = absurd also
+one_task_from command.Solve ranges raw further (task.Audit d p) u read none is also = absurd is
+one_task_from command.Solve ranges raw further (task.Check d a) u read none is also = absurd is
+one_task_from command.Audit ranges raw further (task.Solve d f a) u read none is also = absurd is
+one_task_from command.Audit ranges raw further (task.Check d a) u read none is also = absurd is
+one_task_from command.Check ranges raw further (task.Solve d f a) u read none is also = absurd is
+one_task_from command.Check ranges raw further (task.Audit d p) u read none is also = absurd is
+one_task_from command.Solve ranges raw further (task.Solve d f a) (task.Audit e q) read none is also = absurd also
+one_task_from command.Solve ranges raw further (task.Solve d f a) (task.Check e b) read none is also = absurd also
+one_task_from command.Audit ranges raw further (task.Audit d p) (task.Solve e g b) read none is also = absurd also
+one_task_from command.Audit ranges raw further (task.Audit d p) (task.Check e b) read none is also = absurd also
+one_task_from command.Check ranges raw further (task.Check d a) (task.Solve e g b) read none is also = absurd also
+one_task_from command.Check ranges raw further (task.Check d a) (task.Audit e q) read none is also = absurd also
 
 -- what a command does with files is one thing
-one_task : (c : Command) (terms : Terms) (horizon : ℕ) (contents : Contents) (a b : Result Task Stop) → IsTask c terms horizon contents a → IsTask c terms horizon contents b → a ≡ b
-one_task c terms horizon contents (Ok t) (Ok u) is also =
-    let passes = passes_behind c terms horizon contents is.0.0 is.0.1 is.0.2 in
-    ap Ok (one_task_from c terms (raw_in horizon contents) contents.further t u passes.0 passes.1 is.1 also.1)
-one_task c terms horizon contents (Ok t) (Err (stop.Refused f)) is also = (let same = one_refused c terms horizon contents None (Some f) is.0 also in cc)
-one_task c terms horizon contents (Ok t) (Err (stop.Words f)) is also = absurd also
-one_task c terms horizon contents (Ok t) (Err (stop.TooLong w)) is also = absurd also
-one_task c terms horizon contents (Err (stop.Refused f)) (Ok t) is also = (let same = one_refused c terms horizon contents (Some f) None is also.0 in cc)
-one_task c terms horizon contents (Err (stop.Refused f)) (Err (stop.Refused g)) is also = (let same = one_refused c terms horizon contents (Some f) (Some g) is also in cc)
-one_task c terms horizon contents (Err (stop.Refused f)) (Err (stop.Words g)) is also = absurd also
-one_task c terms horizon contents (Err (stop.Refused f)) (Err (stop.TooLong w)) is also = absurd also
-one_task c terms horizon contents (Err (stop.Words f)) b is also = absurd is
-one_task c terms horizon contents (Err (stop.TooLong w)) b is also = absurd is
+one_task : (c : Command) (ranges : Option ℕ) (horizon : ℕ) (contents : Contents) (a b : Result Task Stop) → IsTask c ranges horizon contents a → IsTask c ranges horizon contents b → a ≡ b
+one_task c ranges horizon contents (Ok t) (Ok u) is also =
+    let passes = passes_behind c ranges horizon contents is.0.0 is.0.1 is.0.2 in
+    ap Ok (one_task_from c ranges (raw_in horizon contents) contents.further t u passes.0 passes.1 is.1 also.1)
+one_task c ranges horizon contents (Ok t) (Err (stop.Refused f)) is also = (let same = one_refused c ranges horizon contents None (Some f) is.0 also in cc)
+one_task c ranges horizon contents (Ok t) (Err (stop.Words f)) is also = absurd also
+one_task c ranges horizon contents (Ok t) (Err (stop.TooLong w)) is also = absurd also
+one_task c ranges horizon contents (Err (stop.Refused f)) (Ok t) is also = (let same = one_refused c ranges horizon contents (Some f) None is also.0 in cc)
+one_task c ranges horizon contents (Err (stop.Refused f)) (Err (stop.Refused g)) is also = (let same = one_refused c ranges horizon contents (Some f) (Some g) is also in cc)
+one_task c ranges horizon contents (Err (stop.Refused f)) (Err (stop.Words g)) is also = absurd also
+one_task c ranges horizon contents (Err (stop.Refused f)) (Err (stop.TooLong w)) is also = absurd also
+one_task c ranges horizon contents (Err (stop.Words f)) b is also = absurd is
+one_task c ranges horizon contents (Err (stop.TooLong w)) b is also = absurd is
 
-one_unless_long : (long : Option FileWord) (c : Command) (terms : Terms) (horizon : ℕ) (contents : Contents) (a b : Result Task Stop)
-    → MatchOption long (IsTask c terms horizon contents a) (λ word. a ≡ Err (stop.TooLong word)) → MatchOption long (IsTask c terms horizon contents b) (λ word. b ≡ Err (stop.TooLong word)) → a ≡ b
-one_unless_long None c terms horizon contents a b is also = one_task c terms horizon contents a b is also
-one_unless_long (Some word) c terms horizon contents a b is also = is ∙ sym also
+one_unless_long : (long : Option FileWord) (c : Command) (ranges : Option ℕ) (horizon : ℕ) (contents : Contents) (a b : Result Task Stop)
+    → MatchOption long (IsTask c ranges horizon contents a) (λ word. a ≡ Err (stop.TooLong word)) → MatchOption long (IsTask c ranges horizon contents b) (λ word. b ≡ Err (stop.TooLong word)) → a ≡ b
+one_unless_long None c ranges horizon contents a b is also = one_task c ranges horizon contents a b is also
+one_unless_long (Some word) c ranges horizon contents a b is also = is ∙ sym also
 
 one_asked : (asked : Result Asked WordFault) (m : Held) (a b : Result Task Stop)
     → MatchResult asked (λ q. IsAskedProblem q m a) (λ fault. a ≡ Err (stop.Words fault)) → MatchResult asked (λ q. IsAskedProblem q m b) (λ fault. b ≡ Err (stop.Words fault)) → a ≡ b
-one_asked (Ok q) m a b is also = one_unless_long (too_long_of q m) q.command (terms_of q) q.horizon (contents_of q m) a b is also
+one_asked (Ok q) m a b is also = one_unless_long (too_long_of q m) q.command q.ranges q.horizon (contents_of q m) a b is also
 one_asked (Err fault) m a b is also = is ∙ sym also
 
 -- what words and files ask to be done, or why they are refused, is one thing
@@ -124,16 +118,16 @@ pub one_problem : (words : List (List ℕ)) (m : Held) (a b : Result Task Stop) 
 one_problem words m a b is also = one_asked (asked_of words) m a b is also
 
 -- what a command does is a task of its own
-pub own_task : (c : Command) (terms : Terms) (raw : RawNet) (further : List ℕ) (t : Task) → IsTaskFrom c terms raw further t → IsTaskOf c t
-own_task command.Solve terms raw further (task.Solve d f a) is = tt
-own_task command.Audit terms raw further (task.Audit d p) is = tt
-own_task command.Check terms raw further (task.Check d a) is = tt
-own_task command.Solve terms raw further (task.Audit d p) is = absurd is
-own_task command.Solve terms raw further (task.Check d a) is = absurd is
-own_task command.Audit terms raw further (task.Solve d f a) is = absurd is
-own_task command.Audit terms raw further (task.Check d a) is = absurd is
-own_task command.Check terms raw further (task.Solve d f a) is = absurd is
-own_task command.Check terms raw further (task.Audit d p) is = absurd is
+pub own_task : (c : Command) (ranges : Option ℕ) (raw : RawNet) (further : List ℕ) (t : Task) → IsTaskFrom c ranges raw further t → IsTaskOf c t
+own_task command.Solve ranges raw further (task.Solve d f a) is = tt
+own_task command.Audit ranges raw further (task.Audit d p) is = tt
+own_task command.Check ranges raw further (task.Check d a) is = tt
+own_task command.Solve ranges raw further (task.Audit d p) is = absurd is
+own_task command.Solve ranges raw further (task.Check d a) is = absurd is
+own_task command.Audit ranges raw further (task.Solve d f a) is = absurd is
+own_task command.Audit ranges raw further (task.Check d a) is = absurd is
+own_task command.Check ranges raw further (task.Solve d f a) is = absurd is
+own_task command.Check ranges raw further (task.Audit d p) is = absurd is
 
 -- the network of records has as many stages as they
 pub stages_are : (raw : RawNet) (c : Checked) → IsNetworkOf raw c → IsChecked c → length c.network.stages ≡ length raw.stages

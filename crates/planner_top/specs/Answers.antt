@@ -12,10 +12,11 @@ use Rattle.service_model.specs.Verdicts.{IsTrueOf}
 use Rattle.cert_check.specs.Bytes.{IsAcceptedBytes, IsRefusedBytes}
 use Rattle.gsm_outside.specs.Held.{Held}
 use Rattle.tree_order.specs.declared.forest.Forest.{Forest}
-use Rattle.range_branch.specs.Own.{IsOwn}
+use Rattle.search_laws.specs.Own.{IsOwn}
+use Rattle.search_laws.specs.Enough.{enough_of}
 use Rattle.range_branch.specs.Solutions.{Solves}
 use Rattle.network_check.specs.declared.checked.Checked.{Checked}
-use Rattle.planner_top.specs.Asked.{Asked, asked_of, terms_of}
+use Rattle.planner_top.specs.Asked.{Asked, asked_of}
 use Rattle.planner_top.specs.Contents.{too_long_of, contents_of}
 use Rattle.planner_top.specs.Tasks.{IsTask}
 use Rattle.planner_top.specs.Texts.{solution_rows, audit_rows, broken_row, valid_row, not_accepted_row, stop_row}
@@ -34,7 +35,7 @@ use Rattle.planner_top.specs.declared.answer.Ending.TheVariants as ending
 -- what a request asks to be done, or why it is refused: by the length of a file, or by a rule on files
 abbrev pub IsAskedProblem : Asked → Held → Result Task Stop → Type 0
 IsAskedProblem q held problem =
-    MatchOption (too_long_of q held) (IsTask q.command (terms_of q) q.horizon (contents_of q held) problem) (λ word. problem ≡ Err (stop.TooLong word))
+    MatchOption (too_long_of q held) (IsTask q.command q.ranges q.horizon (contents_of q held) problem) (λ word. problem ≡ Err (stop.TooLong word))
 
 -- what words ask to be done, or why they are refused
 abbrev pub IsProblem : List (List ℕ) → Held → Result Task Stop → Type 0
@@ -57,7 +58,7 @@ ending_by outcome.Infeasible = ending.Infeasible
 ending_by outcome.Spent = ending.Spent
 
 -- the solution of a network, with its lines: a search within the budget has a certificate of its own, whose verdict is true of the
--- network and is printed with the numbers of its ranges and of its tables
+-- network and is printed with the numbers of its ranges and of its tables; its bytes are made, and are accepted with that verdict
 pub record IsSolution (e : Ending) (rows : List (List (List ℕ))) (filled : ℕ) (cert : Option (List ℕ)) (c : Checked) (f : Forest) (budget : ℕ) : Type 0 where
   pub search : Cert
   pub own : IsOwn c.network f budget search
@@ -65,14 +66,17 @@ pub record IsSolution (e : Ending) (rows : List (List (List ℕ))) (filled : ℕ
   pub ending_is : e ≡ ending_by search.verdict.outcome
   pub rows_are : rows ≡ solution_rows c search.verdict (length search.nodes) (length search.tables)
   pub filled_is : filled ≡ length search.tables
-  -- the budget is spent only where two further ranges would pass it
-  pub full : search.verdict.outcome ≡ outcome.Spent → budget < length search.nodes + 2
-  -- the certificate that is made is this one, with the budget in its head
   pub cert_is : cert ≡ Some (cert_bytes search)
-  -- where the forest drops no arc, one range solves the network, and the certificate's bytes are accepted with the verdict
+  pub accepted : IsAcceptedBytes c.network (cert_bytes search) search.verdict
+  -- there are no more ranges than are enough; the budget is spent only where two further ranges would pass it, and where it is less
+  -- than enough
+  pub nodes : length search.nodes ≤ enough_of c.network f
+  pub full : search.verdict.outcome ≡ outcome.Spent → budget < length search.nodes + 2
+  pub short : search.verdict.outcome ≡ outcome.Spent → budget < enough_of c.network f
+  -- where the forest drops no arc, one range solves the network, with one table for each stage
   pub solved : f.dropped ≡ [] → Solves c.network search.verdict
   pub one : f.dropped ≡ [] → length search.nodes ≡ 1
-  pub accepted : f.dropped ≡ [] → IsAcceptedBytes c.network (cert_bytes search) search.verdict
+  pub stages : f.dropped ≡ [] → filled ≡ length c.network.stages
 
 -- the audit of a plan, with its lines: it is feasible, or the first rule that it breaks
 abbrev pub IsAudit : Ending → List (List (List ℕ)) → Checked → Plan → Type 0

@@ -1,5 +1,5 @@
 -- What the words of a command line ask for.
-use Rattle.std.specs.Prelude.{ℕ, Bool, List, [], ◌∷◌, drop, Option, Some, None, is_some, Result, Ok, Err, unwrap_or, if◌then◌else◌}
+use Rattle.std.specs.Prelude.{ℕ, List, [], ◌∷◌, drop, Option, Some, None, Result, Ok, Err, unwrap_or, if◌then◌else◌}
 use Rattle.service_model.specs.declared.limits.TheConstants.{MAX_HORIZON}
 use Rattle.service_model.specs.declared.cert_rules.TheConstants.{MAX_BUDGET}
 use Rattle.gsm_nums.specs.Whole.{whole_of, without_spaces}
@@ -7,7 +7,6 @@ use Rattle.gsm_nums.specs.declared.whole.NumFault.{NumFault}
 use Rattle.planner_top.specs.declared.command.Command.{Command}
 use Rattle.planner_top.specs.declared.command.Command.TheVariants.{Solve}
 use Rattle.planner_top.specs.declared.command.Key.TheVariants.{Stages, Tables, Arcs, Horizon, Ranges}
-use Rattle.planner_top.specs.declared.asked.Terms.{Terms}
 use Rattle.planner_top.specs.declared.word_fault.WordFault.{WordFault}
 use Rattle.planner_top.specs.declared.stop.FileWord.{FileWord}
 use Rattle.planner_top.specs.Commands.{key_text, command_named, file_key, further_file, written_file}
@@ -81,7 +80,3 @@ cert_in (Err fault) = None
 -- the name of the certificate that words ask for, if they do and no rule on them fails
 abbrev pub cert_name : List (List ℕ) → Option (List ℕ)
 cert_name words = cert_in (asked_of words)
-
--- on what terms a network is to be solved
-abbrev pub terms_of : Asked → Terms
-terms_of q = record { ranges = q.ranges; shown = is_some q.cert }

@@ -11,7 +11,8 @@ use Rattle.service_model.specs.declared.cert.Outcome.TheVariants as outcome
 use Rattle.service_model.specs.declared.cert.Cert.{Cert}
 use Rattle.service_model.specs.Net.{Net}
 use Rattle.service_model.specs.Plans.{Feasible, Least, Empty, cost_of}
-use Rattle.range_branch.specs.Own.{IsOwn}
+use Rattle.search_laws.specs.Own.{IsOwn}
+use Rattle.search_laws.specs.Enough.{enough_of}
 use Rattle.cert_check.specs.Bytes.{IsAcceptedBytes, IsRefusedBytes}
 use Rattle.planner_top.specs.Answers.{IsProblem}
 use Rattle.planner_top.specs.Asked.{cert_name}
@@ -32,14 +33,15 @@ CanBeDone (task.Solve c f budget) = (plan : Plan) × Least c.network plan
 CanBeDone (task.Audit c plan) = Feasible c.network plan
 CanBeDone (task.Check c bytes) = (v : Verdict) × IsAcceptedBytes c.network bytes v
 
--- a search within the budget ended before it found an answer: its forest drops an arc, two further ranges would pass the budget, and
--- its bound is above the cost of no feasible plan
+-- a search within the budget ended before it found an answer: its forest drops an arc, two further ranges would pass the budget, which
+-- is less than enough, and its bound is above the cost of no feasible plan
 pub record IsSpent (n : Net) (f : Forest) (budget : ℕ) : Type 0 where
   pub drops : f.dropped ≢ []
   pub search : Cert
   pub own : IsOwn n f budget search
   pub spent : search.verdict.outcome ≡ outcome.Spent
   pub full : budget < length search.nodes + 2
+  pub short : budget < enough_of n f
   pub below : (p : Plan) → Feasible n p → search.verdict.bound ≤ cost_of n p
 
 -- the task is to solve a network whose forest drops an arc

@@ -15,8 +15,6 @@ use Rattle.stage_file.specs.declared.fault.FileKind.{FileKind}
 use Rattle.stage_file.specs.declared.fault.FileKind.TheVariants as kind
 use Rattle.network_check.specs.declared.checked.Checked.{Checked}
 use Rattle.network_check.specs.Checked.{name_at, unit_at, excess_at}
-use Rattle.cert_check.specs.declared.not_yet.TheConstants.{SPLIT_NOT_YET}
-use Rattle.planner_top.specs.declared.not_yet.TheConstants.{LOOP_NOT_YET}
 use Rattle.planner_top.specs.declared.word_fault.WordFault.{WordFault}
 use Rattle.planner_top.specs.declared.stop.FileWord.{FileWord}
 use Rattle.planner_top.specs.declared.stop.FileWord.TheVariants as file
@@ -104,15 +102,9 @@ broken_row c broken = codes "broken" ∷ (codes "B" ++ decimal broken.rule) ∷ 
 abbrev pub valid_row : Net → Verdict → List (List ℕ)
 valid_row n v = codes "valid" ∷ outcome_row n v
 
--- a rule on certificates: `K` and its number, or the name of what is not checked yet
-unfoldable pub cert_rule_text : ℕ → List ℕ
-cert_rule_text rule =
-    if rule == SPLIT_NOT_YET then codes "SplitNotYet"
-    else codes "K" ++ decimal rule
-
 -- the rule that fails on a certificate, and the line on which it does
 abbrev pub not_accepted_row : ℕ → ℕ → List (List ℕ)
-not_accepted_row line rule = codes "not accepted" ∷ decimal line ∷ cert_rule_text rule ∷ []
+not_accepted_row line rule = codes "not accepted" ∷ decimal line ∷ (codes "K" ++ decimal rule) ∷ []
 
 abbrev pub file_text : FileWord → List ℕ
 file_text file.Stages = codes "stages"
@@ -128,19 +120,14 @@ kind_text kind.Arcs = codes "arcs"
 kind_text kind.Plan = codes "plan"
 kind_text kind.Words = codes "words"
 
--- a rule on files: `F` and its number, or the name of what is not solved yet
-unfoldable pub rule_text : ℕ → List ℕ
-rule_text rule =
-    if rule == LOOP_NOT_YET then codes "LoopNotYet"
-    else codes "F" ++ decimal rule
-
 -- the rule on words that fails, and its place
 abbrev pub word_row : WordFault → List (List ℕ)
 word_row fault = codes "words" ∷ (codes "W" ++ decimal fault.rule) ∷ decimal fault.place ∷ []
 
 -- the rule on files that fails, and its place: the file, the record and the column
 abbrev pub refused_row : FileFault → List (List ℕ)
-refused_row fault = codes "refused" ∷ rule_text fault.rule ∷ kind_text fault.file ∷ decimal fault.row ∷ decimal fault.column ∷ []
+refused_row fault =
+    codes "refused" ∷ (codes "F" ++ decimal fault.rule) ∷ kind_text fault.file ∷ decimal fault.row ∷ decimal fault.column ∷ []
 
 -- what is printed where a run is refused
 abbrev pub stop_row : Stop → List (List ℕ)

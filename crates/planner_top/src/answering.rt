@@ -8,7 +8,7 @@ ghost use Rattle.planner_top.specs.Answers.{IsDone};
 ghost use Rattle.planner_top.specs.Problems.{ProblemCase, AskedCase, AnswerCase};
 
 use crate::answer::{Answer, Unanswered};
-use crate::asked::{Request, terms_of};
+use crate::asked::Request;
 use crate::audit::audit_of;
 use crate::check::check_of;
 use crate::files::read_files;
@@ -72,7 +72,7 @@ fn asked_problem<S: Shelf>(
         Ok(contents) => task_of(
             alloc,
             request.command,
-            terms_of(request),
+            request.ranges,
             request.horizon,
             contents,
         ),

@@ -1,8 +1,4 @@
 // What the words ask for, as the code holds it.
-ghost use Rattle.std.specs.Prelude.{◌≡◌};
-ghost use Rattle.planner_top.specs.Asked.{terms_of};
-ghost use Rattle.planner_top.specs.Requests.{request_as};
-
 use crate::command::Command;
 
 /// A command, the names of its files, the horizon in periods and the budget of ranges.
@@ -19,23 +15,4 @@ pub struct Request<'a> {
     pub horizon: u16,
     /// How many ranges a search may have, if a number is asked for.
     pub ranges: Option<u32>,
-}
-
-/// On what terms a network is to be solved.
-#[derive(Clone, Copy, Debug, PartialEq, Eq)]
-pub struct Terms {
-    /// How many ranges the search may have, if a number is asked for.
-    pub ranges: Option<u32>,
-    /// Whether a certificate is to be written.
-    pub shown: bool,
-}
-
-/// The terms of a request.
-pub fn terms_of(request: &Request<'_>) -> Terms
-    ensures { result ≡ terms_of (request_as request.now) }
-{
-    Terms {
-        ranges: request.ranges,
-        shown: request.cert.is_some(),
-    }
 }

@@ -1,17 +1,17 @@
 // The answer of `check`.
 ghost use Rattle.std.specs.Prelude.{◌≡◌, ◌≤◌, ◌∷◌, [], length, IfOk, None};
 ghost use Rattle.service_model.specs.Verdicts.{IsTrueOf};
-ghost use Rattle.planner_top.specs.Texts.{valid_row, not_accepted_row, cert_rule_text};
+ghost use Rattle.planner_top.specs.Texts.{valid_row, not_accepted_row};
 ghost use Rattle.planner_top.specs.Answers.{IsCheck};
 
 use crate::answer::{Answer, Ending};
 use crate::files::CERT_LIMIT;
 use crate::outcome::push_outcome;
 use crate::text::{number, numbered, row_of};
-use cert_check::{CheckFault, SPLIT_NOT_YET, check_bytes};
+use cert_check::{CheckFault, check_bytes};
 use network_check::Checked;
 use service_model::{List, Network, NoMemory, Verdict};
-use stage_file::{Row, Rows, Text};
+use stage_file::{Row, Rows};
 use std::alloc::Global;
 
 /// The verdict with which a certificate is accepted, or the first rule that fails on it, with its line.
@@ -58,20 +58,8 @@ fn not_accepted_rows(alloc: Global, line: u64, rule: u8) -> Result<Rows, NoMemor
 {
     let mut row = row_of(alloc, &["not accepted"])?;
     row.push(number(alloc, line)?)?;
-    row.push(rule_text(alloc, rule)?)?;
+    row.push(numbered(alloc, b"K", rule as u64)?)?;
     let mut rows = List::new(alloc);
     rows.push(row)?;
     Ok(rows)
-}
-
-// A rule on certificates: its number behind a `K`, or the name of what is not checked yet.
-#[tactic(auto, unfolding(crate::specs::Texts::cert_rule_text))]
-fn rule_text(alloc: Global, rule: u8) -> Result<Text, NoMemory>
-    ensures { IfOk result (λ text. text ≡ cert_rule_text rule) }
-{
-    if rule == SPLIT_NOT_YET {
-        List::copied(alloc, b"SplitNotYet")
-    } else {
-        numbered(alloc, b"K", rule as u64)
-    }
 }

@@ -11,7 +11,6 @@ mod contents;
 mod fetch;
 mod files;
 mod filled;
-mod not_yet;
 mod outcome;
 mod refusal;
 mod report;

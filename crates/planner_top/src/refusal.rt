@@ -1,17 +1,16 @@
 // The lines of refusals.
 ghost use Rattle.std.specs.Prelude.{◌≡◌, ◌∷◌, [], ◌++◌, IfOk, map};
 ghost use Rattle.std.specs.Fmt.{decimal};
-ghost use Rattle.planner_top.specs.Texts.{stop_row, word_row, refused_row, rule_text, kind_text, file_text};
+ghost use Rattle.planner_top.specs.Texts.{stop_row, word_row, refused_row, kind_text, file_text};
 ghost use Rattle.planner_top.specs.Certificates.{bytes_in};
 ghost use Rattle.planner_top.specs.Answers.{IsRefusal, ending_of};
 
 use crate::answer::{Answer, Ending};
-use crate::not_yet::LOOP_NOT_YET;
 use crate::stop::{FileWord, Stop};
 use crate::text::{number, numbered, row_of};
 use crate::word_fault::WordFault;
 use service_model::{List, NoMemory};
-use stage_file::{FileFault, FileKind, Row, Text};
+use stage_file::{FileFault, FileKind, Row};
 use std::alloc::Global;
 
 /// The line of a refusal, with how the run ends.
@@ -50,23 +49,11 @@ fn refused_row(alloc: Global, fault: FileFault) -> Result<Row, NoMemory>
     ensures { IfOk result (λ row. row ≡ refused_row fault) }
 {
     let mut row = row_of(alloc, &["refused"])?;
-    row.push(rule_text(alloc, fault.rule)?)?;
+    row.push(numbered(alloc, b"F", fault.rule as u64)?)?;
     row.push(List::copied(alloc, kind_text(fault.file).as_bytes())?)?;
     row.push(number(alloc, fault.row as u64)?)?;
     row.push(number(alloc, fault.column as u64)?)?;
     Ok(row)
-}
-
-// A rule on files: its number behind an `F`, or the name of what is not solved yet.
-#[tactic(auto, unfolding(crate::specs::Texts::rule_text))]
-fn rule_text(alloc: Global, rule: u8) -> Result<Text, NoMemory>
-    ensures { IfOk result (λ text. text ≡ rule_text rule) }
-{
-    if rule == LOOP_NOT_YET {
-        List::copied(alloc, b"LoopNotYet")
-    } else {
-        numbered(alloc, b"F", rule as u64)
-    }
 }
 
 fn ending_of(stop: Stop) -> Ending

@@ -3,7 +3,8 @@ ghost use Rattle.std.specs.Prelude.{◌≡◌, ◌≤◌, ◌<◌, ◌+◌, ◌^
 ghost use Rattle.service_model.specs.declared.cert.Outcome.TheVariants as outcome;
 ghost use Rattle.service_model.specs.Verdicts.{IsTrueOf};
 ghost use Rattle.tree_order.specs.Forest.{IsForest};
-ghost use Rattle.range_branch.specs.Own.{IsOwn};
+ghost use Rattle.search_laws.specs.Own.{IsOwn};
+ghost use Rattle.search_laws.specs.Enough.{enough_of};
 ghost use Rattle.range_branch.specs.Solutions.{Solves};
 ghost use Rattle.cert_check.specs.Bytes.{IsAcceptedBytes};
 ghost use Rattle.planner_top.specs.Certificates.{cert_bytes};
@@ -30,11 +31,14 @@ pub fn cert_for<L>(
     requires room { steps.old ≤ 2 ^ 62 }
     ensures own { IfOk result (IsOwn network.now forest.now budget) }
     ensures true_verdict { IfOk result (λ c. IsTrueOf network.now c.verdict) }
+    ensures accepted { IfOk result (λ c. IsAcceptedBytes network.now (cert_bytes c) c.verdict) }
+    ensures nodes { IfOk result (λ c. length c.nodes ≤ enough_of network.now forest.now) }
     ensures full { IfOk result (λ c. c.verdict.outcome ≡ outcome.Spent → budget < length c.nodes + 2) }
-    // Where the forest drops no arc, one range solves the network, and the lines of the certificate are accepted.
+    ensures short { IfOk result (λ c. c.verdict.outcome ≡ outcome.Spent → budget < enough_of network.now forest.now) }
+    // Where the forest drops no arc, one range solves the network, with one table for each stage.
     ensures solved { IfOk result (λ c. forest.now.dropped ≡ [] → Solves network.now c.verdict) }
     ensures one { IfOk result (λ c. forest.now.dropped ≡ [] → length c.nodes ≡ 1) }
-    ensures accepted { IfOk result (λ c. forest.now.dropped ≡ [] → IsAcceptedBytes network.now (cert_bytes c) c.verdict) }
+    ensures stages { IfOk result (λ c. forest.now.dropped ≡ [] → length c.tables ≡ length network.now.stages) }
     ensures filled { IfOk result (λ c. steps.new ≡ steps.old + length c.tables) }
     ensures later { steps.old ≤ steps.new }
     ensures few { steps.new ≤ steps.old + MOST_FILLED }

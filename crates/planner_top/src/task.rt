@@ -1,5 +1,5 @@
 // From the bytes of files to what is to be done with their network.
-ghost use Rattle.std.specs.Prelude.{◌≡◌, ◌≤◌, ◌<◌, [], IfOk, All, length};
+ghost use Rattle.std.specs.Prelude.{◌≡◌, ◌≤◌, [], IfOk, length};
 ghost use Rattle.service_model.specs.declared.limits.TheConstants.{MAX_HORIZON};
 ghost use Rattle.stage_file.specs.Raw.{AreFiles, IsRawNet};
 ghost use Rattle.stage_file.specs.Rows.{rows_of_bytes};
@@ -11,19 +11,15 @@ ghost use Rattle.network_check.specs.Checked.{IsNetworkOf, IsChecked};
 ghost use Rattle.planner_top.specs.Commands.{further_file};
 ghost use Rattle.planner_top.specs.Contents.{AreShort, IsWithin};
 ghost use Rattle.planner_top.specs.Requests.{IsRanges};
-ghost use Rattle.planner_top.specs.Tasks.{files_in, loop_fault, shown_fault, TaskCase, TogetherCase, LastCase};
+ghost use Rattle.planner_top.specs.Tasks.{files_in, TaskCase, TogetherCase, LastCase};
 
-use crate::asked::Terms;
 use crate::command::Command;
 use crate::contents::Contents;
 use crate::files::FILE_LIMIT;
-use crate::not_yet::LOOP_NOT_YET;
 use crate::stop::{Stop, Unsolved, unsolved_by};
 use network_check::{Checked, budget_of, check_records};
 use service_model::{NoMemory, Plan};
-use stage_file::{
-    FileFault, FileKind, Files, RawNet, ReadFault, Rows, Text, raw_net, read_plan, rows_of,
-};
+use stage_file::{Files, RawNet, ReadFault, Rows, Text, raw_net, read_plan, rows_of};
 use std::alloc::Global;
 use tree_order::{Forest, forest_of};
 
@@ -42,18 +38,18 @@ pub enum Task {
 pub fn task_of(
     alloc: Global,
     command: Command,
-    terms: Terms,
+    ranges: Option<u32>,
     horizon: u16,
     contents: Contents,
 ) -> Result<Task, Unsolved>
-    requires ranges { IsRanges terms.ranges }
+    requires ranges { IsRanges ranges }
     requires horizon { horizon ≤ MAX_HORIZON }
     requires short { AreShort command contents }
-    ensures { TaskCase command terms horizon contents result }
+    ensures { TaskCase command ranges horizon contents result }
 {
     let files = files_of(alloc, &contents)?;
     match raw_net(alloc, &files, horizon) {
-        Ok(raw) => task_in(alloc, command, terms, &raw, contents.further),
+        Ok(raw) => task_in(alloc, command, ranges, &raw, contents.further),
         Err(fault) => Err(unsolved_by(fault)),
     }
 }
@@ -87,18 +83,18 @@ fn rows_in(alloc: Global, bytes: &[u8]) -> Result<Rows, NoMemory>
 fn task_in(
     alloc: Global,
     command: Command,
-    terms: Terms,
+    ranges: Option<u32>,
     raw: &RawNet,
     further: Text,
 ) -> Result<Task, Unsolved>
-    requires ranges { IsRanges terms.ranges }
+    requires ranges { IsRanges ranges }
     requires horizon { raw.now.horizon ≤ MAX_HORIZON }
     requires read { IsRawNet raw.now }
     requires short { IsWithin (further_file command) further }
-    ensures { TogetherCase command terms raw.now further result }
+    ensures { TogetherCase command ranges raw.now further result }
 {
     match check_records(alloc, raw) {
-        Ok(checked) => last_of(alloc, command, terms, raw, checked, further),
+        Ok(checked) => last_of(alloc, command, ranges, raw, checked, further),
         Err(fault) => Err(unsolved_by(fault)),
     }
 }
@@ -107,20 +103,20 @@ fn task_in(
 fn last_of(
     alloc: Global,
     command: Command,
-    terms: Terms,
+    ranges: Option<u32>,
     raw: &RawNet,
     checked: Checked,
     further: Text,
 ) -> Result<Task, Unsolved>
-    requires ranges { IsRanges terms.ranges }
+    requires ranges { IsRanges ranges }
     requires read { IsRawNet raw.now }
     requires made { IsNetworkOf raw.now checked }
     requires checked { IsChecked checked }
     requires short { IsWithin (further_file command) further }
-    ensures { LastCase command terms raw.now further result }
+    ensures { LastCase command ranges raw.now further result }
 {
     match command {
-        Command::Solve => solve_task(alloc, terms, raw, checked),
+        Command::Solve => solve_task(alloc, ranges, raw, checked),
         Command::Audit => match plan_in(alloc, raw, further.as_slice()) {
             Ok(plan) => Ok(Task::Audit(checked, plan)),
             Err(fault) => Err(unsolved_by(fault)),
@@ -139,45 +135,23 @@ fn plan_in(alloc: Global, raw: &RawNet, further: &[u8]) -> Result<Plan, ReadFaul
     read_plan(alloc, &rows, &raw.stages)
 }
 
-// The least plan is to be found within a budget, or the first rule that fails: on the budget, or on an arc that the forest drops.
-fn solve_task(alloc: Global, terms: Terms, raw: &RawNet, checked: Checked) -> Result<Task, Unsolved>
-    requires ranges { IsRanges terms.ranges }
+// The least plan is to be found within a budget, or the rule on the budget fails.
+fn solve_task(
+    alloc: Global,
+    ranges: Option<u32>,
+    raw: &RawNet,
+    checked: Checked,
+) -> Result<Task, Unsolved>
+    requires ranges { IsRanges ranges }
     requires made { IsNetworkOf raw.now checked }
     requires checked { IsChecked checked }
-    ensures { LastCase Command.Solve terms raw.now [] result }
+    ensures { LastCase Command.Solve ranges raw.now [] result }
 {
-    let forest = forest_of(alloc, &checked.network)?;
-    match budget_of(&checked.network, terms.ranges) {
-        Ok(budget) => match shown_fault(terms.shown, raw, forest.dropped.as_slice()) {
-            Some(fault) => Err(Unsolved::Stop(Stop::Refused(fault))),
-            None => Ok(Task::Solve(checked, forest, budget)),
-        },
+    match budget_of(&checked.network, ranges) {
+        Ok(budget) => {
+            let forest = forest_of(alloc, &checked.network)?;
+            Ok(Task::Solve(checked, forest, budget))
+        }
         Err(fault) => Err(Unsolved::Stop(Stop::Refused(fault))),
     }
-}
-
-// No arc that the forest drops is shown by a certificate yet.
-fn shown_fault(shown: bool, raw: &RawNet, dropped: &[u32]) -> Option<FileFault>
-    requires { All (λ a. a < length raw.now.arcs) dropped.now }
-    ensures { result ≡ shown_fault shown raw.now dropped.now }
-{
-    if shown {
-        loop_fault(raw, dropped)
-    } else {
-        None
-    }
-}
-
-// The first arc that the forest drops.
-fn loop_fault(raw: &RawNet, dropped: &[u32]) -> Option<FileFault>
-    requires { All (λ a. a < length raw.now.arcs) dropped.now }
-    ensures { result ≡ loop_fault raw.now dropped.now }
-{
-    let first = dropped.first()?;
-    Some(FileFault {
-        file: FileKind::Arcs,
-        row: raw.arcs.get(*first as usize).row,
-        rule: LOOP_NOT_YET,
-        column: 0,
-    })
 }

@@ -50,7 +50,7 @@ const CERTIFICATES: [Checked<'static>; 6] = [
         place: 4,
         line: "[\"s\",0,0,1]\n",
         status: Status::NotAccepted,
-        text: "not accepted,5,SplitNotYet\n",
+        text: "not accepted,5,K20\n",
     },
     Checked {
         place: 4,
@@ -104,10 +104,10 @@ fn check_over(alloc: Global, cert: &[u8], out: &mut SureSink) -> Result<Status, 
     run_cert(alloc, "check", &mut shelf, out)
 }
 
-// The certificate with one line replaced.
-fn cert_with(alloc: Global, place: usize, line: &str) -> Result<Vec<u8>, Fail> {
+// Lines of a certificate, with one of them replaced.
+pub fn cert_with(alloc: Global, lines: &[&str], place: usize, line: &str) -> Result<Vec<u8>, Fail> {
     let mut cert = Vec::new(alloc);
-    for (k, good) in LINES.iter().enumerate() {
+    for (k, good) in lines.iter().enumerate() {
         let text = if k == place { line } else { *good };
         cert.extend_from_slice(text.as_bytes())?;
     }
@@ -118,7 +118,7 @@ fn cert_with(alloc: Global, place: usize, line: &str) -> Result<Vec<u8>, Fail> {
 fn a_certificate_of_two_stages_is_checked(rt: HostRuntime) -> Result<(), Fail> {
     let alloc = rt.alloc();
     for case in &CERTIFICATES {
-        let cert = cert_with(alloc, case.place, case.line)?;
+        let cert = cert_with(alloc, &LINES, case.place, case.line)?;
         let mut out = SureSink::new(alloc);
         let status = check_over(alloc, &cert, &mut out)?;
         let got = (status, out.written());
@@ -136,7 +136,7 @@ fn a_certificate_that_is_written_is_accepted(rt: HostRuntime) -> Result<(), Fail
     let status = run_cert(alloc, "solve", &mut shelf, &mut out)?;
     assert_eq!(rt; status, Status::Done);
     assert!(rt; out.written().starts_with(b"optimal,11\n"));
-    let whole = cert_with(alloc, 0, LINES[0])?;
+    let whole = cert_with(alloc, &LINES, 0, LINES[0])?;
     assert_eq!(rt;
         shelf.bytes_of("c").ok_or("no certificate")?,
         whole.as_slice()

@@ -1,5 +1,6 @@
 use super::*;
 use crate::tests::{run_once, words_of};
+use crate::tests_check::cert_with;
 use gsm_outside::{SureShelf, SureSink};
 use std::alloc::Global;
 use std::test::Fail;
@@ -11,59 +12,150 @@ const DIAMOND: [&str; 3] = [
     "supplier,customer,quantity\nA,B,1\nA,C,1\nB,D,1\nC,D,1\n",
 ];
 
-// Solves the network of three files at a horizon, with one word more, into the sink.
-fn solve_with(
-    alloc: Global,
-    horizon: &str,
-    word: &str,
-    files: [&str; 3],
-    out: &mut SureSink,
-) -> Result<Status, Fail> {
-    let words = words_of(
-        alloc,
-        &["solve", "stages=s", "tables=t", "arcs=a", horizon, word],
-    )?;
+// Its certificate: a node, the split of C at time 0, and the two nodes of the split.
+const LINES: [&str; 16] = [
+    "[\"gsm-cert\",1,2,4,1000]\n",
+    "[\"t\",3,1,0,0,0,[],[0,8,8]]\n",
+    "[\"t\",2,1,0,2,0,[],[0,0,0]]\n",
+    "[\"t\",1,1,0,2,0,[0],[0,6,6]]\n",
+    "[\"t\",0,2,0,2,0,[2,1],[6]]\n",
+    "[\"n\",[3],[[0,2,2,0],[2,0,2,0]]]\n",
+    "[\"s\",0,2,3]\n",
+    "[\"t\",2,1,0,0,0,[],[0,1,1]]\n",
+    "[\"t\",0,2,0,2,0,[2,4],[7]]\n",
+    "[\"n\",[5],[[0,2,2,0],[2,0,0,0]]]\n",
+    "[\"t\",3,1,0,0,1,[],[8,8]]\n",
+    "[\"t\",2,1,1,2,0,[],[4611686018427387904,0,0]]\n",
+    "[\"t\",1,1,0,2,0,[6],[8,8,8]]\n",
+    "[\"t\",0,2,0,2,0,[8,7],[8]]\n",
+    "[\"n\",[9],[[0,2,2,2],[2,2,2,0]]]\n",
+    "[\"e\",0,7,[[0,2,2,0],[2,0,0,0]]]\n",
+];
+
+// The second node's relaxed plan may also be this one, which costs as little.
+const OTHER: &str = "[\"n\",[5],[[0,0,0,0],[0,0,0,0]]]\n";
+
+const SOLVED: &str =
+    "optimal,7\nstage,inbound,outbound,time,stock,cost\nA,0,2,0,0,0\nB,2,0,2,6,6\nC,2,0,2,1,1\nD,0,0,0,0,0\nranges,3\nfilled,10\n";
+
+const SPENT: &str =
+    "spent,6,7\nstage,inbound,outbound,time,stock,cost\nA,0,2,0,0,0\nB,2,0,2,6,6\nC,2,0,2,1,1\nD,0,0,0,0,0\nranges,1\nfilled,4\n";
+
+// A budget of ranges, what is printed with which status, and what is printed of the certificate.
+const BUDGETS: [(&str, Status, &str, &str); 3] = [
+    ("ranges=1000", Status::Done, SOLVED, "valid,optimal,7\n"),
+    ("ranges=3", Status::Done, SOLVED, "valid,optimal,7\n"),
+    ("ranges=2", Status::Spent, SPENT, "valid,spent,6,7\n"),
+];
+
+// A line of the certificate that is replaced, and what is printed.
+const FORGED: [(usize, &str, &str); 5] = [
+    (6, "", "not accepted,9,K7\n"),
+    (3, "[\"t\",1,1,0,2,0,[0],[0,7,6]]\n", "not accepted,4,K13\n"),
+    (15, "", "not accepted,16,K8\n"),
+    (6, "[\"s\",1,2,3]\n", "not accepted,7,K19\n"),
+    (6, "[\"s\",0,0,1]\n", "not accepted,7,K22\n"),
+];
+
+// The files of a network.
+fn shelf_of(alloc: Global, files: [&str; 3]) -> Result<SureShelf, Fail> {
     let mut shelf = SureShelf::new(alloc);
     shelf.with_file("s", files[0].as_bytes())?;
     shelf.with_file("t", files[1].as_bytes())?;
     shelf.with_file("a", files[2].as_bytes())?;
-    Ok(run_once(alloc, &words, &mut shelf, out))
+    Ok(shelf)
+}
+
+// Solves the diamond within a budget and writes its certificate, into the sink.
+fn solve_diamond(
+    alloc: Global,
+    ranges: &str,
+    shelf: &mut SureShelf,
+    out: &mut SureSink,
+) -> Result<Status, Fail> {
+    let words = words_of(
+        alloc,
+        &[
+            "solve",
+            "stages=s",
+            "tables=t",
+            "arcs=a",
+            "horizon=2",
+            ranges,
+            "cert=c",
+        ],
+    )?;
+    Ok(run_once(alloc, &words, shelf, out))
+}
+
+// Checks a certificate of the diamond, into the sink.
+fn check_diamond(alloc: Global, shelf: &mut SureShelf, out: &mut SureSink) -> Result<Status, Fail> {
+    let words = words_of(
+        alloc,
+        &[
+            "check",
+            "stages=s",
+            "tables=t",
+            "arcs=a",
+            "horizon=2",
+            "cert=c",
+        ],
+    )?;
+    Ok(run_once(alloc, &words, shelf, out))
 }
 
 #[test]
-fn three_ranges_solve_the_diamond(rt: HostRuntime) -> Result<(), Fail> {
+fn the_certificate_of_a_search_is_accepted(rt: HostRuntime) -> Result<(), Fail> {
     let alloc = rt.alloc();
-    let mut out = SureSink::new(alloc);
-    let status = solve_with(alloc, "horizon=2", "ranges=3", DIAMOND, &mut out)?;
-    assert_eq!(rt; status, Status::Done);
-    assert!(rt; out.written().starts_with(b"optimal,7\n"));
-    assert!(rt; out.written().ends_with(b"ranges,3\nfilled,10\n"));
+    for (ranges, status, text, checked) in BUDGETS {
+        let mut shelf = shelf_of(alloc, DIAMOND)?;
+        let mut out = SureSink::new(alloc);
+        let got = solve_diamond(alloc, ranges, &mut shelf, &mut out)?;
+        assert_eq!(rt;
+            (got, out.written()),
+            (status, text.as_bytes()),
+            "{}",
+            ranges
+        );
+        let mut out = SureSink::new(alloc);
+        let got = check_diamond(alloc, &mut shelf, &mut out)?;
+        assert_eq!(rt;
+            (got, out.written()),
+            (Status::Done, checked.as_bytes()),
+            "{}",
+            ranges
+        );
+    }
     Ok(())
 }
 
 #[test]
-fn two_ranges_are_spent_before_the_diamond_is_solved(rt: HostRuntime) -> Result<(), Fail> {
+fn the_certificate_of_the_diamond_has_a_split(rt: HostRuntime) -> Result<(), Fail> {
     let alloc = rt.alloc();
+    let mut shelf = shelf_of(alloc, DIAMOND)?;
     let mut out = SureSink::new(alloc);
-    let status = solve_with(alloc, "horizon=2", "ranges=2", DIAMOND, &mut out)?;
-    assert_eq!(rt; status, Status::Spent);
-    assert!(rt;
-        out.written()
-            .starts_with(b"spent,6,7\nstage,inbound,outbound,time,stock,cost\n")
-    );
-    assert!(rt; out.written().ends_with(b"ranges,1\nfilled,4\n"));
+    solve_diamond(alloc, "ranges=1000", &mut shelf, &mut out)?;
+    let written = shelf.bytes_of("c").ok_or("no certificate")?;
+    let one = cert_with(alloc, &LINES, 9, LINES[9])?;
+    let other = cert_with(alloc, &LINES, 9, OTHER)?;
+    assert!(rt; written == one.as_slice() || written == other.as_slice());
     Ok(())
 }
 
 #[test]
-fn no_certificate_shows_the_diamond_yet(rt: HostRuntime) -> Result<(), Fail> {
+fn a_forged_certificate_of_the_diamond_is_not_accepted(rt: HostRuntime) -> Result<(), Fail> {
     let alloc = rt.alloc();
-    let mut out = SureSink::new(alloc);
-    let status = solve_with(alloc, "horizon=2", "cert=c", DIAMOND, &mut out)?;
-    assert_eq!(rt;
-        (status, out.written()),
-        (Status::Refused, b"refused,LoopNotYet,arcs,5,0\n".as_slice())
-    );
+    for (place, line, text) in FORGED {
+        let mut shelf = shelf_of(alloc, DIAMOND)?;
+        let cert = cert_with(alloc, &LINES, place, line)?;
+        shelf.with_file("c", &cert)?;
+        let mut out = SureSink::new(alloc);
+        let got = check_diamond(alloc, &mut shelf, &mut out)?;
+        assert_eq!(rt;
+            (got, out.written()),
+            (Status::NotAccepted, text.as_bytes())
+        );
+    }
     Ok(())
 }
 
@@ -98,7 +190,19 @@ fn a_budget_is_refused_behind_the_network(rt: HostRuntime) -> Result<(), Fail> {
         let stages = hundred_stages(alloc, bound)?;
         let mut out = SureSink::new(alloc);
         let files = [stages.as_str(), "table,x\nf,0,3\n", ""];
-        let got = solve_with(alloc, "horizon=40", word, files, &mut out)?;
+        let mut shelf = shelf_of(alloc, files)?;
+        let words = words_of(
+            alloc,
+            &[
+                "solve",
+                "stages=s",
+                "tables=t",
+                "arcs=a",
+                "horizon=40",
+                word,
+            ],
+        )?;
+        let got = run_once(alloc, &words, &mut shelf, &mut out);
         assert_eq!(rt; got, status, "{}", word);
         assert!(rt; out.written().starts_with(first.as_bytes()), "{}", word);
     }

@@ -4,7 +4,7 @@ use Rattle.planner_top.proofs.search.cert_for.Goals as goal
 
 pub returns-clause-accepted : goal.returns-clause-accepted
 returns-clause-accepted g c =
-    search_accepted c.args.network.now c.args.forest.now c.args.budget c.search.result c.stages.ensures.valid c.search.ensures.own c.search.ensures.one c.search.ensures.seen c.search.ensures.short
+    search_accepted c.args.network.now c.args.forest.now c.args.budget c.search.result c.stages.ensures.valid c.search.ensures.own c.search.ensures.short
 
 pub returns-clause-full : goal.returns-clause-full
 returns-clause-full g c = search_full c.args.network.now c.args.forest.now c.args.budget c.search.result c.search.ensures.own
