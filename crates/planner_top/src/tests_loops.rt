@@ -104,27 +104,35 @@ fn check_diamond(alloc: Global, shelf: &mut SureShelf, out: &mut SureSink) -> Re
     Ok(run_once(alloc, &words, shelf, out))
 }
 
+// Solves the diamond within a budget and checks the certificate that was written, each into a sink.
+fn solve_and_check(
+    alloc: Global,
+    ranges: &str,
+    solved: &mut SureSink,
+    checked: &mut SureSink,
+) -> Result<(Status, Status), Fail> {
+    let mut shelf = shelf_of(alloc, DIAMOND)?;
+    let status = solve_diamond(alloc, ranges, &mut shelf, solved)?;
+    Ok((status, check_diamond(alloc, &mut shelf, checked)?))
+}
+
+// Checks these bytes as a certificate of the diamond, into the sink.
+fn check_bytes_of(alloc: Global, cert: &[u8], out: &mut SureSink) -> Result<Status, Fail> {
+    let mut shelf = shelf_of(alloc, DIAMOND)?;
+    shelf.with_file("c", cert)?;
+    check_diamond(alloc, &mut shelf, out)
+}
+
 #[test]
 fn the_certificate_of_a_search_is_accepted(rt: HostRuntime) -> Result<(), Fail> {
     let alloc = rt.alloc();
-    for (ranges, status, text, checked) in BUDGETS {
-        let mut shelf = shelf_of(alloc, DIAMOND)?;
-        let mut out = SureSink::new(alloc);
-        let got = solve_diamond(alloc, ranges, &mut shelf, &mut out)?;
-        assert_eq!(rt;
-            (got, out.written()),
-            (status, text.as_bytes()),
-            "{}",
-            ranges
-        );
-        let mut out = SureSink::new(alloc);
-        let got = check_diamond(alloc, &mut shelf, &mut out)?;
-        assert_eq!(rt;
-            (got, out.written()),
-            (Status::Done, checked.as_bytes()),
-            "{}",
-            ranges
-        );
+    for (ranges, status, text, told) in BUDGETS {
+        let mut solved = SureSink::new(alloc);
+        let mut checked = SureSink::new(alloc);
+        let got = solve_and_check(alloc, ranges, &mut solved, &mut checked)?;
+        assert_eq!(rt; got, (status, Status::Done), "{}", ranges);
+        assert_eq!(rt; solved.written(), text.as_bytes(), "{}", ranges);
+        assert_eq!(rt; checked.written(), told.as_bytes(), "{}", ranges);
     }
     Ok(())
 }
@@ -146,15 +154,11 @@ fn the_certificate_of_the_diamond_has_a_split(rt: HostRuntime) -> Result<(), Fai
 fn a_forged_certificate_of_the_diamond_is_not_accepted(rt: HostRuntime) -> Result<(), Fail> {
     let alloc = rt.alloc();
     for (place, line, text) in FORGED {
-        let mut shelf = shelf_of(alloc, DIAMOND)?;
         let cert = cert_with(alloc, &LINES, place, line)?;
-        shelf.with_file("c", &cert)?;
         let mut out = SureSink::new(alloc);
-        let got = check_diamond(alloc, &mut shelf, &mut out)?;
-        assert_eq!(rt;
-            (got, out.written()),
-            (Status::NotAccepted, text.as_bytes())
-        );
+        let status = check_bytes_of(alloc, &cert, &mut out)?;
+        let got = (status, out.written());
+        assert_eq!(rt; got, (Status::NotAccepted, text.as_bytes()));
     }
     Ok(())
 }
