@@ -7,6 +7,8 @@ mod halves;
 mod leaves;
 mod links;
 mod relaxed;
+#[cfg(test)]
+mod tests;
 
 pub use faults::{Next, split_fault};
 pub use halves::{Halves, halves_of};
