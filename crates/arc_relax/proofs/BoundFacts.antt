@@ -5,7 +5,7 @@ use Rattle.service_model.specs.declared.limits.TheConstants.{INF}
 use Rattle.service_model.specs.declared.range.Range.{Range}
 use Rattle.service_model.specs.declared.table.Table.{Table}
 use Rattle.service_model.specs.Net.{Net}
-use Rattle.service_model.specs.Faults.{IsNetwork}
+use Rattle.service_model.specs.Networks.{IsNetwork}
 use Rattle.service_model.specs.Nodes.{bound_of}
 use Rattle.service_model.specs.Relaxed.{IsRelaxedLeast}
 use Rattle.tree_order.specs.declared.forest.Forest.{Forest}

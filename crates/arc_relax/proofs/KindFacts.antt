@@ -8,7 +8,7 @@ use Rattle.service_model.specs.declared.table.Kind.{Kind}
 use Rattle.service_model.specs.declared.table.Kind.TheVariants.{Down, Up, Root}
 use Rattle.service_model.specs.Net.{Net, arc_in}
 use Rattle.service_model.specs.Walks.{Leads}
-use Rattle.service_model.specs.Faults.{ArcWithin}
+use Rattle.service_model.specs.Networks.{ArcWithin}
 use Rattle.service_model.specs.Relaxed.{IsKindOf}
 use Rattle.tree_order.specs.declared.forest.Forest.{Forest}
 use Rattle.tree_order.specs.Forest.{IsForest}

@@ -10,7 +10,7 @@ use Rattle.service_model.specs.declared.plan.Plan.{Plan}
 use Rattle.service_model.specs.declared.range.Range.{Range}
 use Rattle.service_model.specs.Net.{Net, stage_at, no_stage, no_arc}
 use Rattle.service_model.specs.Plans.{Feasible, Meets, inbound_at, outbound_at, stage_cost, cost_of}
-use Rattle.service_model.specs.Faults.{IsNetwork}
+use Rattle.service_model.specs.Networks.{IsNetwork}
 use Rattle.service_model.specs.Ranges.{whole_of, IsIn, latest_start}
 use Rattle.service_model.specs.Forests.{IsKept}
 use Rattle.service_model.specs.Relaxed.{IsRelaxedPlan, IsRelaxedLeast}

@@ -12,7 +12,7 @@ use Rattle.service_model.specs.declared.table.Table.{Table}
 use Rattle.service_model.specs.Net.{Net, arc_in}
 use Rattle.service_model.specs.Plans.{Meets, inbound_at, outbound_at, stage_cost}
 use Rattle.service_model.specs.Walks.{Leads}
-use Rattle.service_model.specs.Faults.{IsNetwork}
+use Rattle.service_model.specs.Networks.{IsNetwork}
 use Rattle.service_model.specs.Tables.{transit_in, IsChild}
 use Rattle.service_model.specs.Nodes.{Holds, MeetsChild}
 use Rattle.service_model.specs.Forests.{IsChildOf, IsKept}

@@ -10,7 +10,7 @@ use Rattle.service_model.specs.declared.table.Table.{Table}
 use Rattle.service_model.specs.Net.{Net, arc_in}
 use Rattle.service_model.specs.Plans.{HasTimes, Meets, inbound_at, outbound_at, stage_cost, cost_of}
 use Rattle.service_model.specs.Walks.{Leads}
-use Rattle.service_model.specs.Faults.{IsNetwork}
+use Rattle.service_model.specs.Networks.{IsNetwork}
 use Rattle.service_model.specs.Tables.{table_at, transit_in}
 use Rattle.service_model.specs.Nodes.{MeetsChild}
 use Rattle.service_model.specs.Forests.{IsChildOf, IsKept}

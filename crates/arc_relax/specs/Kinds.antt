@@ -6,6 +6,7 @@ use Rattle.service_model.specs.declared.table.Kind.TheVariants.{Root}
 use Rattle.service_model.specs.Net.{arc_in}
 use Rattle.service_model.specs.Relaxed.{IsKindOf}
 
+-- the kind of the table of stage j
 abbrev pub kind_at : List Kind → ℕ → Kind
 kind_at kinds j = slice_index_or kinds j Root
 

@@ -5,7 +5,7 @@ use Rattle.service_model.specs.declared.plan.Plan.{Plan}
 use Rattle.service_model.specs.declared.range.Range.{Range}
 use Rattle.service_model.specs.Net.{Net}
 use Rattle.service_model.specs.Plans.{Feasible, Least, Empty, cost_of}
-use Rattle.service_model.specs.Faults.{IsNetwork}
+use Rattle.service_model.specs.Networks.{IsNetwork}
 use Rattle.service_model.specs.Ranges.{whole_of, IsIn}
 use Rattle.service_model.specs.Forests.{IsKept}
 use Rattle.service_model.specs.Relaxed.{IsRelaxedPlan, IsRelaxedLeast}

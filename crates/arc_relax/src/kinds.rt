@@ -1,6 +1,6 @@
 // The kinds of the stages' tables, by one pass over the arcs.
 ghost use Rattle.std.specs.Prelude.{◌≡◌, ◌<◌, length, slice_set, if◌then◌else◌, IfOk};
-ghost use Rattle.service_model.specs.Faults.{IsNetwork};
+ghost use Rattle.service_model.specs.Networks.{IsNetwork};
 ghost use Rattle.tree_order.specs.Forest.{IsForest};
 ghost use Rattle.arc_relax.specs.Kinds.{AreKinds};
 

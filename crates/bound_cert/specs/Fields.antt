@@ -20,15 +20,19 @@ whole_in least most d = do
   n ← shaped (option_and_then as_u64 (as_number d))
   if nat_le least n && nat_le n most then Ok n else Err Shape
 
+-- the kind with this number
 abbrev pub kind_by : ℕ → Kind
 kind_by n = if n == 0 then Down else (if n == 1 then Up else Root)
 
+-- the outcome with this number
 abbrev pub outcome_by : ℕ → Outcome
 outcome_by n = if n == 0 then Optimal else (if n == 1 then Infeasible else Spent)
 
+-- the kind that a JSON value gives
 unfoldable pub kind_in : Data → Result Kind Refusal
 kind_in d = whole_in 0 2 d >>= λ n. Ok (kind_by n)
 
+-- the outcome that a JSON value gives
 unfoldable pub outcome_in : Data → Result Outcome Refusal
 outcome_in d = whole_in 0 2 d >>= λ n. Ok (outcome_by n)
 
@@ -41,6 +45,7 @@ tag_of s =
     if bytes_eq s (codes "s") then Ok tags.Split else (
     if bytes_eq s (codes "e") then Ok tags.End else Err Shape))))
 
+-- the kind of line that a JSON value names
 unfoldable pub tag_in : Data → Result Tag Refusal
 tag_in d = shaped (as_str d) >>= tag_of
 
@@ -66,6 +71,7 @@ wholes_among most (item d rest) = do
 unfoldable pub wholes_in : ℕ → Data → Result (List ℕ) Refusal
 wholes_in most d = shaped (as_array d) >>= wholes_among most
 
+-- the plan that these fields give: inbound and outbound times
 unfoldable pub plan_among : Items → Result Plan Refusal
 plan_among fields = do
   inbound ← field (wholes_in MAX_TIME) fields

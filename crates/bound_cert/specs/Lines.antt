@@ -12,6 +12,7 @@ use Rattle.service_model.specs.declared.cert.Item.{Item}
 use Rattle.service_model.specs.declared.cert.Item.TheVariants.{Head as HeadItem, Table as TableItem, Node as NodeItem, Split as SplitItem, End as EndItem}
 use Rattle.bound_cert.specs.declared.limits.TheConstants.{FORMAT}
 
+-- the byte that ends a line
 abbrev pub line_feed : ℕ
 line_feed = 10
 
@@ -19,9 +20,11 @@ line_feed = 10
 abbrev pub row : List Data → Data
 row ds = array (items_of ds)
 
+-- a string of these bytes
 abbrev pub word : List ℕ → Data
 word s = string s
 
+-- a whole number
 abbrev pub whole : ℕ → Data
 whole n = number (unsigned n)
 
@@ -29,11 +32,13 @@ whole n = number (unsigned n)
 abbrev pub wholes : List ℕ → Data
 wholes ns = row (map whole ns)
 
+-- the number that stands for a kind in a line
 abbrev pub kind_number : Kind → ℕ
 kind_number Down = 0
 kind_number Up = 1
 kind_number Root = 2
 
+-- the number that stands for an outcome in a line
 abbrev pub outcome_number : Outcome → ℕ
 outcome_number Optimal = 0
 outcome_number Infeasible = 1

@@ -10,6 +10,7 @@ pub record Reader : Type 0 where
   pub place : Place
   pub answer : Option FeedStop
 
+-- a reader that was fed nothing
 abbrev pub new_reader : Reader
 new_reader = record { fed = 0; closed = false; place = start; answer = None }
 

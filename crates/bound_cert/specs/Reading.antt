@@ -17,6 +17,7 @@ use Rattle.bound_cert.specs.declared.line.Limits.{Limits}
 use Rattle.bound_cert.specs.Refusals.{◌>>=◌, shaped}
 use Rattle.bound_cert.specs.Fields.{whole_in, kind_in, outcome_in, tag_in, field, ends, wholes_in, plan_in}
 
+-- the head that these fields give: version, horizon, stages, budget
 unfoldable pub head_among : Items → Result Line Refusal
 head_among fields = do
   version ← field (whole_in 0 MAX_NUMBER) fields
@@ -25,6 +26,7 @@ head_among fields = do
   budget ← field (whole_in 1 MAX_BUDGET) stages.1
   ends budget.1 (record { version = version.0; item = HeadItem (record { horizon = horizon.0; stages = stages.0; budget = budget.0 }) })
 
+-- least and greatest time and floor of a table, and the fields behind them
 unfoldable pub limits_among : Items → Result (Limits × Items) Refusal
 limits_among fields = do
   least ← field (whole_in 0 MAX_TIME) fields
@@ -32,12 +34,14 @@ limits_among fields = do
   floor ← field (whole_in 0 MAX_TIME) most.1
   Ok (record { least = least.0; most = most.0; floor = floor.0 }, floor.1)
 
+-- children and values of a table, with no field behind them
 unfoldable pub lists_among : Items → Result (List ℕ × List ℕ) Refusal
 lists_among fields = do
   children ← field (wholes_in MAX_NUMBER) fields
   values ← field (wholes_in INF) children.1
   ends values.1 (children.0, values.0)
 
+-- the table that these fields give: stage, kind, limits, children, values
 unfoldable pub table_among : Items → Result Line Refusal
 table_among fields = do
   stage ← field (whole_in 0 MAX_NUMBER) fields
@@ -46,12 +50,14 @@ table_among fields = do
   lists ← lists_among limits.1
   Ok (record { version = FORMAT; item = TableItem (record { stage = stage.0; kind = kind.0; least = limits.0.least; most = limits.0.most; floor = limits.0.floor; children = lists.0; values = lists.1 }) })
 
+-- the node that these fields give: roots and relaxed plan; `seen` tables came before it
 unfoldable pub node_among : ℕ → Items → Result Line Refusal
 node_among seen fields = do
   roots ← field (wholes_in MAX_NUMBER) fields
   relaxed ← field plan_in roots.1
   ends relaxed.1 (record { version = FORMAT; item = NodeItem (record { seen = seen; roots = roots.0; relaxed = relaxed.0 }) })
 
+-- the split that these fields give: node, supplier, customer
 unfoldable pub split_among : Items → Result Line Refusal
 split_among fields = do
   node ← field (whole_in 0 MAX_NUMBER) fields
@@ -59,6 +65,7 @@ split_among fields = do
   customer ← field (whole_in 0 MAX_NUMBER) supplier.1
   ends customer.1 (record { version = FORMAT; item = SplitItem (record { node = node.0; supplier = supplier.0; customer = customer.0 }) })
 
+-- the verdict that these fields give: outcome, bound, plan
 unfoldable pub end_among : Items → Result Line Refusal
 end_among fields = do
   outcome ← field outcome_in fields
@@ -74,6 +81,7 @@ line_among seen tags.Node fields = node_among seen fields
 line_among seen tags.Split fields = split_among fields
 line_among seen tags.End fields = end_among fields
 
+-- the line that a JSON value gives; `seen` is the number of table lines before it
 unfoldable pub line_in : ℕ → Data → Result Line Refusal
 line_in seen d = do
   fields ← shaped (as_array d)

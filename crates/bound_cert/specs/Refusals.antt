@@ -16,6 +16,7 @@ abbrev pub shaped : {A : Type 0} → Option A → Result A Refusal
 shaped None = Err Shape
 shaped (Some x) = Ok x
 
+-- the call stopped as reading does, or memory did not suffice
 abbrev pub Fails : {Y : Type 0} → LineStop → Result Y Refusal → Type 0
 Fails NoMemory read = ⊤
 Fails (Refused why) read = read ≡ Err why

@@ -14,14 +14,17 @@ few_stages = 2000
 abbrev pub few_values : ℕ
 few_values = 1002
 
+-- a plan has at most so many times of each kind
 pub record HasFewTimes (p : Plan) : Type 0 where
   pub inbound : length p.inbound ≤ few_stages
   pub outbound : length p.outbound ≤ few_stages
 
+-- a table has at most so many children and values
 pub record IsSmallTable (t : Table) : Type 0 where
   pub children : length t.children ≤ few_stages
   pub values : length t.values ≤ few_values
 
+-- a node has at most so many roots and times
 pub record IsSmallNode (x : Node) : Type 0 where
   pub roots : length x.roots ≤ few_stages
   pub relaxed : IfSome x.relaxed HasFewTimes

@@ -27,6 +27,7 @@ pub record Within (p : Place) (fed : ℕ) : Type 0 where
   pub nodes : p.nodes ≤ p.lines
   pub splits : p.splits ≤ p.lines
 
+-- the items of a step that gives one or none
 abbrev pub option_items : Option Item → List Item
 option_items None = []
 option_items (Some x) = x ∷ []

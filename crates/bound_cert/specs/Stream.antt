@@ -21,6 +21,7 @@ pub record Place : Type 0 where
   pub ended : Bool
   pub begun : List ℕ
 
+-- no byte was read
 abbrev pub start : Place
 start = record { lines = 0; tables = 0; nodes = 0; splits = 0; ended = false; begun = [] }
 
@@ -57,10 +58,12 @@ fault_at p rule = Err (record { line = p.lines + 1; rule = rule })
 abbrev pub Step : Type 0
 Step = Result (List Item × Place) CertFault
 
+-- a line gives its item, unless a rule on its place fails
 abbrev pub with_rule : Place → Item → Option ℕ → Step
 with_rule p x (Some rule) = fault_at p rule
 with_rule p x None = Ok (x ∷ [], after_item p x)
 
+-- what is read of a line gives its item, or the first rule that fails on it
 abbrev pub with_line : Place → Result Line Refusal → Step
 with_line p (Err NotJson) = fault_at p NOT_JSON
 with_line p (Err Shape) = fault_at p SHAPE
@@ -98,6 +101,7 @@ reads (b ∷ bytes) p = go_on (reads bytes) (read_byte p b)
 unfoldable pub closed : Place → Reads
 closed p = if p.ended then ([], Ok p) else ([], fault_at p NO_END)
 
+-- a line is begun and not ended
 abbrev pub has_begun : Place → Bool
 has_begun p = not (length p.begun == 0)
 

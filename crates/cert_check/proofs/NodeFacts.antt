@@ -6,7 +6,8 @@ use Rattle.service_model.specs.declared.table.Kind.TheVariants.{Root}
 use Rattle.service_model.specs.declared.table.Table.{Table}
 use Rattle.service_model.specs.declared.cert.Node.{Node}
 use Rattle.service_model.specs.Net.{Net}
-use Rattle.service_model.specs.Tables.{table_at, Sound, IsShaped}
+use Rattle.service_model.specs.Tables.{table_at, IsShaped}
+use Rattle.service_model.specs.LocalSums.{Sound}
 use Rattle.service_model.specs.Nodes.{IsNode}
 
 pub node_as : (n m : Net) (tables ts : List Table) (range r : Range) (x y : Node) → m ≡ n → ts ≡ tables → r ≡ range → y ≡ x → IsNode n tables range x.roots

@@ -21,6 +21,7 @@ pub record Arrivals : Type 0 where
 abbrev pub none_arrived : Arrivals
 none_arrived = record { held = none_held; halves = []; leaves = [] }
 
+-- what stands for the halves of a split that there is not
 abbrev pub no_halves : Halves
 no_halves = record { left = no_range; right = no_range }
 

@@ -4,7 +4,7 @@ use Rattle.service_model.specs.declared.plan.Plan.{Plan}
 use Rattle.service_model.specs.declared.range.Range.{Range}
 use Rattle.service_model.specs.Net.{Net}
 use Rattle.service_model.specs.Plans.{HasTimes}
-use Rattle.service_model.specs.Faults.{IsNetwork}
+use Rattle.service_model.specs.Networks.{IsNetwork}
 use Rattle.service_model.specs.Orders.{IsTopological}
 use Rattle.service_model.specs.Ranges.{whole_of, HasIntervals}
 use Rattle.service_model.specs.Repairs.{Found}

@@ -3,7 +3,7 @@ ghost use Rattle.std.specs.Prelude.{◌≡◌, ◌<◌, ◌+◌, ◌*◌, Option
 ghost use Rattle.service_model.specs.declared.cert.Item.TheVariants.{Node as NodeItem, Split as SplitItem, End as EndItem};
 ghost use Rattle.service_model.specs.declared.plan.Plan.{Plan};
 ghost use Rattle.service_model.specs.Plans.{Feasible};
-ghost use Rattle.service_model.specs.Faults.{IsNetwork};
+ghost use Rattle.service_model.specs.Networks.{IsNetwork};
 ghost use Rattle.service_model.specs.CertNumbers.{TableInRange};
 ghost use Rattle.service_model.specs.Held.{relaxed_at, cuts_of, range_of};
 ghost use Rattle.service_model.specs.Repairs.{FoundOf, better};

@@ -7,7 +7,7 @@ use Rattle.service_model.specs.declared.cert.Verdict.{Verdict}
 use Rattle.service_model.specs.declared.cert.Item.{Item}
 use Rattle.service_model.specs.declared.cert.Item.TheVariants.{Head as HeadItem}
 use Rattle.service_model.specs.Net.{Net}
-use Rattle.service_model.specs.Faults.{IsNetwork}
+use Rattle.service_model.specs.Networks.{IsNetwork}
 use Rattle.service_model.specs.Nodes.{bound_of, AreSoundBelow}
 use Rattle.service_model.specs.Verdicts.{IsTrueOf}
 use Rattle.service_model.specs.Items.{items_of, items_from}
@@ -18,7 +18,7 @@ use Rattle.gsm_laws.proofs.ElementFacts.{each}
 use Rattle.gsm_laws.proofs.BelowFacts.{sound_everywhere}
 use Rattle.gsm_laws.proofs.NodeFacts.{node_law}
 use Rattle.cert_laws.specs.SoFar.{SoundSoFar}
-use Rattle.cert_laws.specs.Laws.{BoundLaw, CheckLaw, AcceptedLaw, CertLaw}
+use Rattle.cert_laws.specs.ItemLaws.{BoundLaw, CheckLaw, AcceptedLaw, CertLaw}
 use Rattle.cert_laws.proofs.KeptFacts.{held_after-end}
 use Rattle.cert_laws.proofs.ItemFacts.{item_more_law}
 

@@ -11,7 +11,7 @@ use Rattle.service_model.specs.Net.{Net}
 use Rattle.service_model.specs.Held.{Held, none_held, held_with, held_after, budget_of}
 use Rattle.service_model.specs.CertRules.{Keeps}
 use Rattle.service_model.specs.Certs.{AllKeep}
-use Rattle.cert_laws.specs.Laws.{EarnedLaw, BudgetLaw}
+use Rattle.cert_laws.specs.ItemLaws.{EarnedLaw, BudgetLaw}
 use Rattle.cert_laws.proofs.KeptFacts.{AllKeep-parts}
 
 -- there are no more than two nodes for each split and one, and no more than the head allows

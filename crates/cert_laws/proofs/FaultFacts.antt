@@ -8,7 +8,7 @@ use Rattle.service_model.specs.Net.{Net}
 use Rattle.service_model.specs.Held.{Held, none_held, held_with, held_after}
 use Rattle.service_model.specs.CertRules.{Keeps}
 use Rattle.service_model.specs.Certs.{IsFirstBroken, AllKeep, IsFaultAt}
-use Rattle.cert_laws.specs.Laws.{FaultOneLaw, NoFaultLaw}
+use Rattle.cert_laws.specs.ItemLaws.{FaultOneLaw, NoFaultLaw}
 use Rattle.cert_laws.proofs.KeptFacts.{AllKeep-parts}
 
 first_one : {x y : Item} {xs ys : List Item} → x ∷ xs ≡ y ∷ ys → (x ≡ y) × (xs ≡ ys)

@@ -8,7 +8,8 @@ use Rattle.std.proofs.lemmas.List.Sums.{sum_by-cons}
 use Rattle.std.proofs.lemmas.List.Elements.{recursion_from_All, All-from_recursion}
 use Rattle.service_model.specs.declared.table.Table.{Table}
 use Rattle.service_model.specs.Net.{Net}
-use Rattle.service_model.specs.Tables.{no_table, table_at, least_below, Local, IsChild, IsShaped, Sound}
+use Rattle.service_model.specs.Tables.{no_table, table_at, IsChild, IsShaped}
+use Rattle.service_model.specs.LocalSums.{least_below, Local, Sound}
 use Rattle.service_model.specs.Nodes.{below, below_within, below_roots, IsSoundAt, Fits, IsOnce}
 use Rattle.service_model.specs.CertRules.{IsTable}
 use Rattle.gsm_laws.proofs.ElementFacts.{each, each_two, all_concat, flat_map_same}

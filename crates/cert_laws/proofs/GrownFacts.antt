@@ -14,7 +14,7 @@ use Rattle.service_model.specs.declared.cert.Item.TheVariants.{Head as HeadItem,
 use Rattle.service_model.specs.Items.{split_after, items_from}
 use Rattle.service_model.specs.Held.{node_at, no_node}
 use Rattle.cert_laws.specs.Grown.{IsWhole, node_items, grown}
-use Rattle.cert_laws.specs.Laws.{FirstLaw, GrownLaw}
+use Rattle.cert_laws.specs.ItemLaws.{FirstLaw, GrownLaw}
 
 none_either : (b : Bool) → (if b then [] else []) ≡ (let none : List Split = [] in none)
 none_either true = refl

@@ -15,7 +15,7 @@ use Rattle.service_model.specs.declared.cert.Verdict.{Verdict}
 use Rattle.service_model.specs.declared.cert.Item.TheVariants.{Head as HeadItem, Table as TableItem, Node as NodeItem, Split as SplitItem, End as EndItem}
 use Rattle.service_model.specs.Net.{Net}
 use Rattle.service_model.specs.Plans.{inbound_at}
-use Rattle.service_model.specs.Faults.{IsNetwork}
+use Rattle.service_model.specs.Networks.{IsNetwork}
 use Rattle.service_model.specs.Customers.{HasEnds}
 use Rattle.service_model.specs.Tables.{transit_in}
 use Rattle.service_model.specs.Nodes.{IsNode}
@@ -26,7 +26,7 @@ use Rattle.service_model.specs.CertRules.{Keeps}
 use Rattle.service_model.proofs.NetworkFacts.{IsNetwork-HasEnds}
 use Rattle.gsm_laws.proofs.ElementFacts.{each}
 use Rattle.cert_laws.specs.SoFar.{SoundSoFar}
-use Rattle.cert_laws.specs.Laws.{ItemMoreLaw}
+use Rattle.cert_laws.specs.ItemLaws.{ItemMoreLaw}
 use Rattle.cert_laws.proofs.CutFacts.{old_node}
 use Rattle.cert_laws.proofs.GrowFacts.{table_more_law, node_stays_law}
 use Rattle.cert_laws.proofs.SplitFacts.{is_cut, cuts_more}

@@ -5,7 +5,7 @@ use Rattle.std.proofs.lemmas.List.{ext_get_or}
 use Rattle.service_model.specs.declared.plan.Plan.{Plan}
 use Rattle.service_model.specs.Net.{Net}
 use Rattle.service_model.specs.Plans.{HasTimes}
-use Rattle.service_model.specs.Faults.{IsNetwork}
+use Rattle.service_model.specs.Networks.{IsNetwork}
 use Rattle.service_model.specs.Repairs.{Repair, Raise, Lower, Shift, IsRepair, IsCandidateOf, turn}
 use Rattle.gsm_laws.specs.Traces.{SameAt}
 use Rattle.cert_laws.specs.Laws.{RepairLaw, FoundOneLaw}

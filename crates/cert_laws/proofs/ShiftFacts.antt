@@ -10,7 +10,7 @@ use Rattle.service_model.specs.Net.{Net, no_arc}
 use Rattle.service_model.specs.Search.{sum_below}
 use Rattle.service_model.specs.Plans.{inbound_at, outbound_at}
 use Rattle.service_model.specs.Walks.{Leads, Walk, NoCycle}
-use Rattle.service_model.specs.Faults.{IsNetwork}
+use Rattle.service_model.specs.Networks.{IsNetwork}
 use Rattle.service_model.specs.Customers.{HasEnds}
 use Rattle.service_model.specs.Repairs.{latest_arrival, Shift, IsRepair}
 use Rattle.service_model.proofs.NetworkFacts.{IsNetwork-HasEnds}

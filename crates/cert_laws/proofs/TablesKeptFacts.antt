@@ -13,7 +13,7 @@ use Rattle.service_model.specs.Items.{is_head}
 use Rattle.service_model.specs.Held.{Held, held_with, is_misplaced}
 use Rattle.service_model.specs.CertRules.{TableRule, NetworkRule, Keeps}
 use Rattle.cert_laws.specs.Grown.{TablesKeep}
-use Rattle.cert_laws.specs.Laws.{TablesLaw}
+use Rattle.cert_laws.specs.ItemLaws.{TablesLaw}
 
 -- whichever way a choice goes
 pub either : (b : Bool) (A B : Type 0) → A → B → MatchBool b A B

@@ -5,7 +5,7 @@ use Rattle.service_model.specs.declared.cert.Outcome.{Outcome}
 use Rattle.service_model.specs.declared.cert.Outcome.TheVariants.{Optimal, Infeasible, Spent}
 use Rattle.service_model.specs.Net.{Net}
 use Rattle.service_model.specs.Plans.{Feasible, cost_of}
-use Rattle.service_model.specs.Faults.{IsNetwork}
+use Rattle.service_model.specs.Networks.{IsNetwork}
 use Rattle.service_model.specs.Repairs.{Found}
 use Rattle.service_model.specs.Verdicts.{EndsWith, ending_plan, TrueAs}
 use Rattle.service_model.proofs.NetworkFacts.{IsNetwork-HasEnds}

@@ -1,3 +1,4 @@
 pub mod SoFar
 pub mod Grown
 pub mod Laws
+pub mod ItemLaws

@@ -2,7 +2,7 @@
 use Rattle.std.specs.Prelude.{◌≡◌, ℕ, ◌+◌, ◌*◌, ◌<◌, ◌≤◌, length, All, Some}
 use Rattle.service_model.specs.declared.cert.Verdict.{Verdict}
 use Rattle.service_model.specs.Net.{Net}
-use Rattle.service_model.specs.Tables.{Sound}
+use Rattle.service_model.specs.LocalSums.{Sound}
 use Rattle.service_model.specs.Nodes.{IsNode}
 use Rattle.service_model.specs.CertRanges.{AreCuts}
 use Rattle.service_model.specs.Verdicts.{IsTrueOf}

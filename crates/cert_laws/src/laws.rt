@@ -1,5 +1,6 @@
 // The laws, each as the contract of a call that does nothing.
-ghost use Rattle.cert_laws.specs.Laws.{LeafLaw, LeastBoundLaw, FoundMoreLaw, RepairLaw, FoundOneLaw, TableMoreLaw, NodeStaysLaw, TrueLaw, EndingOneLaw, ItemMoreLaw, BoundLaw, CheckLaw, AcceptedLaw, CertLaw, EarnedLaw, BudgetLaw, FaultOneLaw, NoFaultLaw, FirstLaw, GrownLaw, TablesLaw};
+ghost use Rattle.cert_laws.specs.Laws.{LeafLaw, LeastBoundLaw, FoundMoreLaw, RepairLaw, FoundOneLaw, TableMoreLaw, NodeStaysLaw, TrueLaw, EndingOneLaw};
+ghost use Rattle.cert_laws.specs.ItemLaws.{ItemMoreLaw, BoundLaw, CheckLaw, AcceptedLaw, CertLaw, EarnedLaw, BudgetLaw, FaultOneLaw, NoFaultLaw, FirstLaw, GrownLaw, TablesLaw};
 
 /// Each feasible plan lies in the range of exactly one leaf.
 pub fn leaf_law()

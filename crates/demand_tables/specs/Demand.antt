@@ -19,6 +19,7 @@ no_row = record { name = []; lead = 0; supply = 0; least = 0; most = 0; bound = 
 abbrev pub row_at : RawNet → ℕ → StageRow
 row_at raw j = slice_index_or raw.stages j no_row
 
+-- what stands for a table that there is not
 abbrev pub no_table : TableRow
 no_table = record { name = []; entries = []; row = 0 }
 

@@ -3,7 +3,7 @@ use Rattle.std.proofs.Common.{◌≡◌, ℕ, List, Option, Some, None, refl, sy
 use Rattle.service_model.specs.declared.plan.Plan.{Plan}
 use Rattle.service_model.specs.Net.{Net}
 use Rattle.service_model.specs.Plans.{HasTimes, Feasible}
-use Rattle.service_model.specs.Faults.{IsNetwork}
+use Rattle.service_model.specs.Networks.{IsNetwork}
 use Rattle.service_model.specs.Repairs.{Repair, Raise, Lower, IsRepair, IsRepairable, IsCandidateOf, FoundOf}
 use Rattle.cert_laws.proofs.RepairFacts.{repair_law}
 use Rattle.end_rules.specs.Times.{AreArrivals, AreNeeds}

@@ -6,7 +6,7 @@ use Rattle.std.proofs.lemmas.List.{get_or-set_same, get_or-set_other, length-set
 use Rattle.service_model.specs.declared.plan.Plan.{Plan}
 use Rattle.service_model.specs.Net.{Net, stage_at, arc_in}
 use Rattle.service_model.specs.Plans.{HasTimes, inbound_at}
-use Rattle.service_model.specs.Faults.{IsNetwork}
+use Rattle.service_model.specs.Networks.{IsNetwork}
 use Rattle.service_model.specs.Orders.{IsTopological}
 use Rattle.service_model.specs.Repairs.{Shift, IsRepairable, IsRepair, RepairsStage, latest_arrival}
 use Rattle.service_model.proofs.OrderLaws.{stage_once, place_stage, stage_place, supplier_first}

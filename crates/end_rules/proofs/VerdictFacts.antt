@@ -7,7 +7,7 @@ use Rattle.service_model.specs.declared.cert_rules.TheConstants.{VERDICT, PLAN}
 use Rattle.service_model.specs.declared.plan.Plan.{Plan}
 use Rattle.service_model.specs.declared.cert.Verdict.{Verdict}
 use Rattle.service_model.specs.Net.{Net}
-use Rattle.service_model.specs.Faults.{IsNetwork}
+use Rattle.service_model.specs.Networks.{IsNetwork}
 use Rattle.service_model.specs.Held.{Held, budget_of, relaxed_of, roots_of, cuts_of}
 use Rattle.service_model.specs.Repairs.{Found}
 use Rattle.service_model.specs.Verdicts.{IsLeastBound, EndsWith, ending_plan}

@@ -1,6 +1,6 @@
 // The arcs that lead to each stage.
 ghost use Rattle.std.specs.Prelude.{◌≡◌, IfOk, [], replicate};
-ghost use Rattle.service_model.specs.Faults.{IsNetwork};
+ghost use Rattle.service_model.specs.Networks.{IsNetwork};
 ghost use Rattle.end_rules.specs.Inputs.{HasInputs};
 
 use service_model::{List, Network, NoMemory, SupplyArc};

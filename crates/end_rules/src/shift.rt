@@ -2,7 +2,7 @@
 ghost use Rattle.std.specs.Prelude.{◌≡◌, ◌<◌, ◌≤◌, All, IfOk, Some, length, slice_index};
 ghost use Rattle.service_model.specs.Plans.{HasTimes};
 ghost use Rattle.service_model.specs.Orders.{IsTopological};
-ghost use Rattle.service_model.specs.Faults.{IsNetwork};
+ghost use Rattle.service_model.specs.Networks.{IsNetwork};
 ghost use Rattle.service_model.specs.Repairs.{Shift, IsRepairable, IsRepair};
 ghost use Rattle.end_rules.specs.Inputs.{HasInputs, IsEarly, latest_input};
 ghost use Rattle.end_rules.specs.Shifts.{KeepsMost, with_shifted};

@@ -1,6 +1,6 @@
 // The rules on verdicts.
 ghost use Rattle.std.specs.Prelude.{◌≡◌, ◌↔◌, ◌+◌, ◌<◌, ◌≤◌, IfSome, IsSomeAnd, IsTrue, length};
-ghost use Rattle.service_model.specs.Faults.{IsNetwork};
+ghost use Rattle.service_model.specs.Networks.{IsNetwork};
 ghost use Rattle.service_model.specs.Plans.{Feasible, cost_of};
 ghost use Rattle.service_model.specs.Held.{Held, budget_of, relaxed_of, roots_of, cuts_of};
 ghost use Rattle.service_model.specs.Repairs.{Found};

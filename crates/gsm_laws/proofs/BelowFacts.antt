@@ -4,7 +4,8 @@ use Rattle.std.specs.List.{flat_map, AllByRecursion}
 use Rattle.std.proofs.lemmas.List.Elements.{recursion_from_All}
 use Rattle.service_model.specs.declared.table.Table.{Table}
 use Rattle.service_model.specs.Net.{Net}
-use Rattle.service_model.specs.Tables.{table_at, Sound, AllTight}
+use Rattle.service_model.specs.Tables.{table_at}
+use Rattle.service_model.specs.LocalSums.{Sound, AllTight}
 use Rattle.service_model.specs.Nodes.{below, below_within, IsSoundAt, IsTightAt, AreSoundBelow, AreTightBelow}
 use Rattle.gsm_laws.specs.Laws.{BelowLaw}
 use Rattle.gsm_laws.proofs.ElementFacts.{each, all_append, all_concat, all_parts, flat_map_same}

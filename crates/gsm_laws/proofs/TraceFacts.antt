@@ -12,7 +12,8 @@ use Rattle.service_model.specs.declared.table.Kind.TheVariants.{Down, Up, Root}
 use Rattle.service_model.specs.declared.table.Table.{Table}
 use Rattle.service_model.specs.Net.{Net, stage_at}
 use Rattle.service_model.specs.Plans.{HasTimes, inbound_at, outbound_at, stage_cost, charge}
-use Rattle.service_model.specs.Tables.{table_at, transit_in, place, place_of, child_transit, child_least, least_below, least_of, ComesFrom}
+use Rattle.service_model.specs.Tables.{table_at, transit_in, place, place_of, child_transit}
+use Rattle.service_model.specs.LocalSums.{child_least, least_below, least_of, ComesFrom}
 use Rattle.service_model.specs.Nodes.{below, below_within, Holds, IsTightAt, MeetsChild}
 use Rattle.gsm_laws.specs.Traces.{IsAbsent, SameAt, SameOutside, TracedWithin, cost_at}
 use Rattle.gsm_laws.specs.Laws.{TraceLaw}

@@ -10,7 +10,8 @@ use Rattle.service_model.specs.declared.table.Kind.TheVariants.{Down, Up, Root}
 use Rattle.service_model.specs.declared.table.Table.{Table}
 use Rattle.service_model.specs.Net.{Net}
 use Rattle.service_model.specs.Plans.{inbound_at, outbound_at}
-use Rattle.service_model.specs.Tables.{table_at, width, place, child_transit, child_least, least_of, least_below}
+use Rattle.service_model.specs.Tables.{table_at, width, place, child_transit}
+use Rattle.service_model.specs.LocalSums.{child_least, least_of, least_below}
 use Rattle.service_model.specs.Nodes.{below_within, Holds, plan_value, IsSoundAt, MeetsChild}
 use Rattle.gsm_laws.specs.Traces.{TracedWithin, cost_at}
 use Rattle.gsm_laws.specs.Laws.{TracedLaw}

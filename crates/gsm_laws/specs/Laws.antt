@@ -9,7 +9,8 @@ use Rattle.service_model.specs.Net.{Net}
 use Rattle.service_model.specs.Plans.{HasTimes, Feasible, cost_of}
 use Rattle.service_model.specs.Customers.{HasEnds}
 use Rattle.service_model.specs.Ranges.{IsIn}
-use Rattle.service_model.specs.Tables.{table_at, Sound}
+use Rattle.service_model.specs.Tables.{table_at}
+use Rattle.service_model.specs.LocalSums.{Sound}
 use Rattle.service_model.specs.Nodes.{below, Holds, plan_value, bound_of, AreSoundBelow, AreTightBelow, IsOnce, IsNode}
 use Rattle.gsm_laws.specs.Traces.{IsTraced, cost_at, IsTraceOf, IsWhole, IsLeastTraced}
 

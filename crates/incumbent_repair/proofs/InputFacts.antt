@@ -9,7 +9,7 @@ use Rattle.service_model.specs.declared.stage.SupplyArc.{SupplyArc}
 use Rattle.service_model.specs.declared.plan.Plan.{Plan}
 use Rattle.service_model.specs.Net.{Net, net_of, arc_in}
 use Rattle.service_model.specs.Plans.{HasTimes}
-use Rattle.service_model.specs.Faults.{IsNetwork}
+use Rattle.service_model.specs.Networks.{IsNetwork}
 use Rattle.service_model.specs.Repairs.{latest_arrival}
 use Rattle.incumbent_repair.specs.Inputs.{arcs_to, HasInputs, IsEarly, latest_input}
 use Rattle.incumbent_repair.specs.Shifts.{KeepsMost}

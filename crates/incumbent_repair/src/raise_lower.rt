@@ -1,6 +1,6 @@
 // The repairs that change only one of a stage's two times.
 ghost use Rattle.std.specs.Prelude.{◌≡◌, ◌+◌, ◌-◌, ◌<◌, ◌^◌, IfOk, Some, length, max, min, slice_index, slice_set};
-ghost use Rattle.service_model.specs.Faults.{IsNetwork};
+ghost use Rattle.service_model.specs.Networks.{IsNetwork};
 ghost use Rattle.service_model.specs.Repairs.{Raise, Lower, IsRepairable};
 ghost use Rattle.incumbent_repair.specs.Times.{AreArrivals, AreNeeds};
 ghost use Rattle.incumbent_repair.specs.Candidates.{CandidateOf};

@@ -9,14 +9,15 @@ use Rattle.service_model.specs.declared.stage.SupplyArc.{SupplyArc}
 use Rattle.service_model.specs.Net.{stage_at, no_stage, arc_in, no_arc}
 use Rattle.service_model.specs.Search.{sum_below}
 use Rattle.service_model.specs.Walks.{NoCycle}
-use Rattle.service_model.specs.Faults.{StageWithin, ArcWithin, IsSameEnds, IsNetwork, top_of, tops_below}
+use Rattle.service_model.specs.Faults.{IsSameEnds, top_of, tops_below}
+use Rattle.service_model.specs.Networks.{StageWithin, ArcWithin, IsNetwork}
 use Rattle.stage_file.specs.declared.arcs.ArcRow.{ArcRow}
 use Rattle.stage_file.specs.declared.limits.TheConstants.{MAX_EXCESS, MAX_UNIT}
 use Rattle.stage_file.specs.declared.raw.RawNet.{RawNet}
 use Rattle.stage_file.specs.declared.stages.StageRow.{StageRow}
 use Rattle.stage_file.specs.Arcs.{ArcRowWithin, AreArcRows}
 use Rattle.stage_file.specs.Raw.{IsRawNet}
-use Rattle.stage_file.specs.Stages.{StageRowWithin}
+use Rattle.stage_file.specs.StageRecords.{StageRowWithin}
 use Rattle.demand_tables.specs.Demand.{row_at, no_row, excess_at, ExcessWithin}
 use Rattle.demand_tables.specs.DemandFaults.{supply_arc}
 use Rattle.network_check.specs.Checked.{stage_with, supply_arcs, network_from}

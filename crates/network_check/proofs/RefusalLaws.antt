@@ -12,7 +12,8 @@ use Rattle.stage_file.specs.declared.raw.Files.{Files}
 use Rattle.stage_file.specs.declared.raw.RawNet.{RawNet}
 use Rattle.stage_file.specs.declared.fault.FileFault.{FileFault}
 use Rattle.stage_file.specs.declared.stages.StageRow.{StageRow}
-use Rattle.stage_file.specs.Stages.{stage_file_fault, stage_rows_of}
+use Rattle.stage_file.specs.Stages.{stage_file_fault}
+use Rattle.stage_file.specs.StageRecords.{stage_rows_of}
 use Rattle.stage_file.specs.Tables.{table_file_fault}
 use Rattle.stage_file.specs.Arcs.{names_of, arc_file_fault, arc_rows_of, AreArcRows}
 use Rattle.stage_file.specs.Raw.{raw_fault, raw_of, IsRawNet}

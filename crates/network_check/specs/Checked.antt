@@ -45,12 +45,15 @@ pub record IsNetworkOf (raw : RawNet) (c : Checked) : Type 0 where
   pub excess : HasExcess raw c.excess
   pub made : c ≡ checked_from raw c.excess
 
+-- the name of stage j
 abbrev pub name_at : Checked → ℕ → List ℕ
 name_at c j = slice_index_or c.names j []
 
+-- the unit cost of stage j
 abbrev pub unit_at : Checked → ℕ → ℕ
 unit_at c j = slice_index c.units j
 
+-- the excess demands of stage j
 abbrev pub excess_at : Checked → ℕ → List ℕ
 excess_at c j = slice_index_or c.excess j []
 

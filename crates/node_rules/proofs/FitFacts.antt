@@ -7,7 +7,8 @@ use Rattle.std.proofs.lemmas.List.{length-replicate}
 use Rattle.std.proofs.lemmas.List.Elements.{All-weaker, All-contains, All-from_recursion, recursion_from_All}
 use Rattle.service_model.specs.declared.table.Table.{Table}
 use Rattle.service_model.specs.Net.{Net}
-use Rattle.service_model.specs.Tables.{table_at, Sound}
+use Rattle.service_model.specs.Tables.{table_at}
+use Rattle.service_model.specs.LocalSums.{Sound}
 use Rattle.service_model.specs.Nodes.{below, below_within, below_roots, IsSoundAt}
 use Rattle.gsm_laws.proofs.ElementFacts.{each, each_two, all_concat, all_parts}
 use Rattle.gsm_laws.proofs.BelowFacts.{HasEarlier, earlier_from_sound, itself, each_child, sound_everywhere}

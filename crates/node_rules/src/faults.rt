@@ -2,7 +2,7 @@
 ghost use Rattle.std.specs.Prelude.{◌≡◌, ◌<◌, ◌↔◌, All, IfOk, IfSome, IsTrue, length};
 ghost use Rattle.service_model.specs.Plans.{HasTimes};
 ghost use Rattle.service_model.specs.Ranges.{HasIntervals};
-ghost use Rattle.service_model.specs.Tables.{Sound};
+ghost use Rattle.service_model.specs.LocalSums.{Sound};
 ghost use Rattle.service_model.specs.Held.{Held, budget_of, range_of};
 ghost use Rattle.service_model.specs.CertRules.{NodeRule, IsFirstOf};
 ghost use Rattle.node_rules.specs.Faults.{IsBelowFault};

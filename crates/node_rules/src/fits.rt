@@ -1,6 +1,6 @@
 // Whether tables fit the range of a node.
 ghost use Rattle.std.specs.Prelude.{◌≡◌, ◌<◌, ◌↔◌, All, IfOk, IsTrue, length};
-ghost use Rattle.service_model.specs.Tables.{Sound};
+ghost use Rattle.service_model.specs.LocalSums.{Sound};
 ghost use Rattle.service_model.specs.Nodes.{below_roots, Fits};
 
 use crate::marks::{mark_all, no_marks};

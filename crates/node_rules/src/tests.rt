@@ -1,6 +1,7 @@
 // Nodes over two stages and an arc from the first to the second.
 ghost use Rattle.std.specs.Prelude.{◌≡◌, ℕ, ◌<◌, All, IsTrue, length};
-ghost use Rattle.service_model.specs.Tables.{table_at, IsChild, IsShaped, IsSized, Sound, Supplies};
+ghost use Rattle.service_model.specs.Tables.{table_at, IsChild, IsShaped, IsSized, Supplies};
+ghost use Rattle.service_model.specs.LocalSums.{Sound};
 ghost use Rattle.service_model.specs.CertNumbers.{TableInRange};
 
 use crate::roots::are_roots;

@@ -1,6 +1,6 @@
 // The walk over the tables at and below the roots of a node, each before its children.
 ghost use Rattle.std.specs.Prelude.{◌≡◌, ◌<◌, ◌++◌, ◌∷◌, [], All, IfOk, IfNone, IfSome, OnOk, length, reverse};
-ghost use Rattle.service_model.specs.Tables.{Sound};
+ghost use Rattle.service_model.specs.LocalSums.{Sound};
 ghost use Rattle.node_rules.specs.Walks.{IsWalk};
 
 use crate::marks::{mark, no_marks};

@@ -14,7 +14,7 @@ use Rattle.service_model.specs.declared.cert.Item.{Item}
 use Rattle.service_model.specs.declared.cert.Item.TheVariants.{Head as HeadItem, Table as TableItem, Node as NodeItem, Split as SplitItem, End as EndItem}
 use Rattle.service_model.specs.Net.{Net}
 use Rattle.service_model.specs.Plans.{HasTimes}
-use Rattle.service_model.specs.Faults.{IsNetwork}
+use Rattle.service_model.specs.Networks.{IsNetwork}
 use Rattle.service_model.specs.Items.{split_after, items_from, items_of}
 use Rattle.service_model.specs.Held.{Held, none_held, held_with, no_node}
 use Rattle.service_model.specs.Certs.{AllKeep}

@@ -15,7 +15,7 @@ use Rattle.service_model.specs.declared.cert.Cert.{Cert}
 use Rattle.service_model.specs.declared.cert.Item.TheVariants.{End as EndItem}
 use Rattle.service_model.specs.Net.{Net, no_arc}
 use Rattle.service_model.specs.Plans.{HasTimes, Meets, Feasible}
-use Rattle.service_model.specs.Faults.{IsNetwork}
+use Rattle.service_model.specs.Networks.{IsNetwork}
 use Rattle.service_model.specs.Nodes.{bound_of}
 use Rattle.service_model.specs.CertRanges.{range_at}
 use Rattle.service_model.specs.Verdicts.{Closes, EndsWith, ending_plan, TrueAs, IsTrueOf}

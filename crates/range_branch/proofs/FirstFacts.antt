@@ -11,7 +11,7 @@ use Rattle.service_model.specs.declared.cert.Node.{Node}
 use Rattle.service_model.specs.declared.cert.Verdict.{Verdict}
 use Rattle.service_model.specs.declared.cert.Item.TheVariants.{Head as HeadItem, Table as TableItem, Node as NodeItem}
 use Rattle.service_model.specs.Net.{Net, no_stage}
-use Rattle.service_model.specs.Faults.{IsNetwork}
+use Rattle.service_model.specs.Networks.{IsNetwork}
 use Rattle.service_model.specs.Ranges.{whole_of, HasIntervals}
 use Rattle.service_model.specs.Nodes.{bound_of}
 use Rattle.service_model.specs.CertNumbers.{HeadInRange}

@@ -9,7 +9,7 @@ use Rattle.service_model.specs.declared.cert.Split.{Split}
 use Rattle.service_model.specs.declared.cert_rules.TheConstants.{MAX_BUDGET}
 use Rattle.service_model.specs.Net.{Net}
 use Rattle.service_model.specs.Plans.{HasTimes, Meets, Feasible}
-use Rattle.service_model.specs.Faults.{IsNetwork}
+use Rattle.service_model.specs.Networks.{IsNetwork}
 use Rattle.service_model.specs.Nodes.{bound_of}
 use Rattle.service_model.specs.Ranges.{HasIntervals, HoldsTime}
 use Rattle.service_model.specs.CertRanges.{range_at}

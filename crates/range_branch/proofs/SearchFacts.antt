@@ -5,7 +5,7 @@ use Rattle.std.proofs.Math.Nat.{mul-le-mul_right}
 use Rattle.std.proofs.lemmas.List.{get_or_default, length-take-le}
 use Rattle.service_model.specs.declared.table.Table.{Table}
 use Rattle.service_model.specs.Net.{Net}
-use Rattle.service_model.specs.Faults.{IsNetwork}
+use Rattle.service_model.specs.Networks.{IsNetwork}
 use Rattle.service_model.specs.CertRanges.{Cut, no_cut, AreCuts, IsLeaf, node_bound}
 use Rattle.service_model.specs.Held.{cuts_of, roots_of}
 use Rattle.tree_order.specs.declared.forest.Forest.{Forest}

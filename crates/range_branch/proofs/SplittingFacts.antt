@@ -9,7 +9,7 @@ use Rattle.service_model.specs.declared.cert.Outcome.TheVariants.{Spent}
 use Rattle.service_model.specs.declared.cert.Verdict.{Verdict}
 use Rattle.service_model.specs.Net.{Net, arc_in}
 use Rattle.service_model.specs.Plans.{inbound_at}
-use Rattle.service_model.specs.Faults.{IsNetwork}
+use Rattle.service_model.specs.Networks.{IsNetwork}
 use Rattle.service_model.specs.Tables.{transit_in}
 use Rattle.service_model.specs.Ranges.{HoldsTime}
 use Rattle.service_model.specs.CertRanges.{IsCut, AreCuts, range_at}

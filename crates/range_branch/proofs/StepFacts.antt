@@ -12,7 +12,7 @@ use Rattle.service_model.specs.declared.cert.Verdict.{Verdict}
 use Rattle.service_model.specs.declared.cert.Item.{Item}
 use Rattle.service_model.specs.declared.cert.Item.TheVariants.{Split as SplitItem}
 use Rattle.service_model.specs.Net.{Net, no_arc}
-use Rattle.service_model.specs.Faults.{IsNetwork}
+use Rattle.service_model.specs.Networks.{IsNetwork}
 use Rattle.service_model.specs.Nodes.{bound_of}
 use Rattle.service_model.specs.Ranges.{whole_of, ended, started}
 use Rattle.service_model.specs.CertRanges.{Cut, no_range, range_at, with_halves, with_cuts, ranges_of, node_range}

@@ -9,7 +9,7 @@ use Rattle.service_model.specs.declared.cert.Split.{Split}
 use Rattle.service_model.specs.declared.cert.Verdict.{Verdict}
 use Rattle.service_model.specs.declared.cert.Cert.{Cert}
 use Rattle.service_model.specs.Net.{Net, stage_at}
-use Rattle.service_model.specs.Faults.{IsNetwork}
+use Rattle.service_model.specs.Networks.{IsNetwork}
 use Rattle.service_model.specs.Orders.{IsTopological}
 use Rattle.service_model.specs.Ranges.{HasIntervals}
 use Rattle.service_model.specs.CertRanges.{ranges_of, range_at}
@@ -35,6 +35,7 @@ pub record IsGiven (g : Given) : Type 0 where
   pub some : 1 ≤ g.budget
   pub most : g.budget ≤ MAX_BUDGET
 
+-- the head of a certificate of the network within a budget
 abbrev pub head_of : Net → ℕ → Head
 head_of n budget = record { horizon = n.horizon; stages = length n.stages; budget = budget }
 
@@ -84,6 +85,7 @@ abbrev pub AreReplaced : List Leaf → List Leaf → Leaf → Leaf → Leaf → 
 AreReplaced old new leaf left right =
     (q : Leaf) → Contains new q ↔ ((Contains old q × (q ≢ leaf)) ⊎ ((q ≡ left) ⊎ (q ≡ right)))
 
+-- a leaf by its bound and its node
 abbrev pub leaf_of : ℕ → ℕ → Leaf
 leaf_of bound node = record { bound = bound; node = node }
 

@@ -7,7 +7,8 @@ use Rattle.std.proofs.lemmas.List.Elements.{Contains-append_left, Contains-appen
 use Rattle.std.proofs.lemmas.List.Sorted.{IsPermutation-reverse, sum_by-IsPermutation}
 use Rattle.std.proofs.lemmas.Grind.{flat_map-append, reverse_onto}
 use Rattle.service_model.specs.declared.table.Table.{Table}
-use Rattle.service_model.specs.Tables.{table_at, capped}
+use Rattle.service_model.specs.Tables.{table_at}
+use Rattle.service_model.specs.LocalSums.{capped}
 use Rattle.service_model.specs.Nodes.{below, below_roots, bound_of, IsOnce}
 use Rattle.gsm_laws.specs.Traces.{IsAbsent}
 use Rattle.gsm_laws.proofs.ElementFacts.{each, each_two, all_both, all_parts, all_concat}

@@ -6,7 +6,8 @@ use Rattle.std.proofs.lemmas.List.{get_or_append_left}
 use Rattle.std.proofs.lemmas.List.Elements.{recursion_from_All}
 use Rattle.service_model.specs.declared.table.Table.{Table}
 use Rattle.service_model.specs.Net.{Net}
-use Rattle.service_model.specs.Tables.{table_at, no_table, Local, IsShaped, Sound, AllTight}
+use Rattle.service_model.specs.Tables.{table_at, no_table, IsShaped}
+use Rattle.service_model.specs.LocalSums.{Local, Sound, AllTight}
 use Rattle.gsm_laws.proofs.ElementFacts.{each}
 use Rattle.cert_laws.proofs.GrowFacts.{Agree, local_agree, children_agree}
 

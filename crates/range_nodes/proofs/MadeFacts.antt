@@ -10,7 +10,7 @@ use Rattle.service_model.specs.declared.table.Kind.TheVariants.{Root}
 use Rattle.service_model.specs.declared.table.Table.{Table}
 use Rattle.service_model.specs.declared.cert.Node.{Node}
 use Rattle.service_model.specs.Net.{Net}
-use Rattle.service_model.specs.Faults.{IsNetwork}
+use Rattle.service_model.specs.Networks.{IsNetwork}
 use Rattle.service_model.specs.Ranges.{HasIntervals}
 use Rattle.service_model.specs.Tables.{table_at, no_table}
 use Rattle.service_model.specs.Nodes.{below, bound_of}

@@ -10,7 +10,7 @@ use Rattle.service_model.specs.declared.table.Table.{Table}
 use Rattle.service_model.specs.declared.cert.Node.{Node}
 use Rattle.service_model.specs.Net.{Net}
 use Rattle.service_model.specs.Plans.{HasTimes}
-use Rattle.service_model.specs.Faults.{IsNetwork}
+use Rattle.service_model.specs.Networks.{IsNetwork}
 use Rattle.service_model.specs.Ranges.{HasIntervals, floor_of}
 use Rattle.service_model.specs.Nodes.{below, below_roots, Fits}
 use Rattle.service_model.specs.Tables.{table_at}

@@ -8,7 +8,7 @@ use Rattle.service_model.specs.declared.range.Range.{Range}
 use Rattle.service_model.specs.declared.table.Table.{Table}
 use Rattle.service_model.specs.declared.cert.Node.{Node}
 use Rattle.service_model.specs.Net.{Net, stage_at}
-use Rattle.service_model.specs.Faults.{IsNetwork}
+use Rattle.service_model.specs.Networks.{IsNetwork}
 use Rattle.service_model.specs.Tables.{table_at}
 use Rattle.service_model.specs.Nodes.{MeetsChild, bound_of}
 use Rattle.service_model.specs.Relaxed.{IsRelaxedPlan}

@@ -8,7 +8,8 @@ use Rattle.std.proofs.lemmas.List.Elements.{recursion_from_All}
 use Rattle.service_model.specs.declared.range.Range.{Range}
 use Rattle.service_model.specs.declared.table.Table.{Table}
 use Rattle.service_model.specs.Net.{Net}
-use Rattle.service_model.specs.Tables.{table_at, no_table, capped, Sound}
+use Rattle.service_model.specs.Tables.{table_at, no_table}
+use Rattle.service_model.specs.LocalSums.{capped, Sound}
 use Rattle.service_model.specs.Nodes.{below, below_roots}
 use Rattle.service_model.specs.Relaxed.{IsRelaxedLeast, IsTableOf}
 use Rattle.gsm_laws.specs.Traces.{IsWhole}

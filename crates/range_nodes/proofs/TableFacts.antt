@@ -8,8 +8,9 @@ use Rattle.service_model.specs.declared.limits.TheConstants.{INF}
 use Rattle.service_model.specs.declared.cert_rules.TheConstants.{TABLE, CHILD, CHILD_ARC, LOCAL}
 use Rattle.service_model.specs.declared.table.Table.{Table}
 use Rattle.service_model.specs.Net.{Net}
-use Rattle.service_model.specs.Faults.{IsNetwork}
-use Rattle.service_model.specs.Tables.{table_at, no_table, Reached, Tight, IsShaped}
+use Rattle.service_model.specs.Networks.{IsNetwork}
+use Rattle.service_model.specs.Tables.{table_at, no_table, IsShaped}
+use Rattle.service_model.specs.LocalSums.{Reached, Tight}
 use Rattle.service_model.specs.CertNumbers.{TableInRange}
 use Rattle.service_model.specs.CertRules.{most_floor, IsTable, TableRule}
 use Rattle.cert_laws.proofs.TablesKeptFacts.{either}

@@ -8,7 +8,7 @@ use Rattle.service_model.specs.declared.cert.Node.{Node}
 use Rattle.service_model.specs.declared.cert.Item.TheVariants.{Node as NodeItem}
 use Rattle.service_model.specs.Net.{Net, stage_at}
 use Rattle.service_model.specs.Plans.{Feasible, Meets}
-use Rattle.service_model.specs.Faults.{IsNetwork}
+use Rattle.service_model.specs.Networks.{IsNetwork}
 use Rattle.service_model.specs.Ranges.{whole_of, HasIntervals}
 use Rattle.service_model.specs.Nodes.{below_roots, bound_of}
 use Rattle.service_model.specs.CertNumbers.{InRange}

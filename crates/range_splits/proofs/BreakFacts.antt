@@ -3,7 +3,7 @@ use Rattle.std.proofs.Common.{◌≡◌, ℕ, ◌+◌, ◌<◌, sym, ap, ◌∙�
 use Rattle.service_model.specs.declared.plan.Plan.{Plan}
 use Rattle.service_model.specs.Net.{Net, arc_in}
 use Rattle.service_model.specs.Plans.{inbound_at, outbound_at}
-use Rattle.service_model.specs.Faults.{IsNetwork}
+use Rattle.service_model.specs.Networks.{IsNetwork}
 use Rattle.service_model.specs.Tables.{transit_in}
 use Rattle.service_model.specs.Held.{relaxed_at}
 use Rattle.service_model.proofs.ArcFacts.{transit_in-arc, supplies_from_leads}

@@ -9,7 +9,7 @@ use Rattle.service_model.specs.declared.cert.Outcome.{Outcome}
 use Rattle.service_model.specs.declared.cert.Outcome.TheVariants.{Optimal, Infeasible, Spent}
 use Rattle.service_model.specs.Net.{Net}
 use Rattle.service_model.specs.Plans.{Feasible}
-use Rattle.service_model.specs.Faults.{IsNetwork}
+use Rattle.service_model.specs.Networks.{IsNetwork}
 use Rattle.service_model.specs.CertNumbers.{PlanInRange}
 use Rattle.service_model.specs.Repairs.{Found}
 use Rattle.service_model.specs.Verdicts.{IsLeastBound, EndsWith, ending_plan}

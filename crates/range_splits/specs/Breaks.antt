@@ -25,6 +25,7 @@ pub record IsMostOf (n : Net) (p : Plan) (count : ℕ) (x : Broken) : Type 0 whe
   pub most : (b : ℕ) → b < count → lateness p (arc_in n.arcs b) ≤ x.late
   pub first : (b : ℕ) → b < x.arc → lateness p (arc_in n.arcs b) < x.late
 
+-- the arc is the one broken most among the first so many, or none of them is broken
 abbrev pub IsMostSoFar : Net → Plan → ℕ → Option Broken → Type 0
 IsMostSoFar n p count best = MatchOption best ((b : ℕ) → b < count → lateness p (arc_in n.arcs b) ≡ 0) (IsMostOf n p count)
 

@@ -6,7 +6,7 @@ use Rattle.service_model.specs.declared.cert.Split.{Split}
 use Rattle.service_model.specs.declared.cert.Verdict.{Verdict}
 use Rattle.service_model.specs.Net.{Net, arc_in}
 use Rattle.service_model.specs.Plans.{Feasible, cost_of}
-use Rattle.service_model.specs.Faults.{IsNetwork}
+use Rattle.service_model.specs.Networks.{IsNetwork}
 use Rattle.service_model.specs.Ranges.{HoldsTime}
 use Rattle.service_model.specs.CertRanges.{Cut, IsCut, AreCuts, IsLeaf}
 use Rattle.service_model.specs.CertNumbers.{VerdictInRange}

@@ -4,7 +4,7 @@ use Rattle.std.proofs.lemmas.List.{get_or-set_same, get_or-set_other}
 use Rattle.service_model.specs.declared.range.Range.{Range}
 use Rattle.service_model.specs.Net.{Net}
 use Rattle.service_model.specs.Search.{sum_below}
-use Rattle.service_model.specs.Faults.{IsNetwork}
+use Rattle.service_model.specs.Networks.{IsNetwork}
 use Rattle.service_model.specs.Ranges.{HasIntervals, HoldsTime, whole_of, ended, started}
 use Rattle.search_laws.proofs.ProductFacts.{product_below, product_le, product_some, product_parts, product_one, product_power}
 use Rattle.search_laws.proofs.PartFacts.{whole_most}

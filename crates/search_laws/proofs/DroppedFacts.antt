@@ -11,7 +11,7 @@ use Rattle.service_model.specs.declared.cert.Node.{Node}
 use Rattle.service_model.specs.declared.cert.Split.{Split}
 use Rattle.service_model.specs.Net.{Net, no_arc, arc_in}
 use Rattle.service_model.specs.Plans.{Meets, inbound_at, outbound_at}
-use Rattle.service_model.specs.Faults.{IsNetwork}
+use Rattle.service_model.specs.Networks.{IsNetwork}
 use Rattle.service_model.specs.Ranges.{floor_of}
 use Rattle.service_model.specs.Tables.{transit_in}
 use Rattle.service_model.specs.Forests.{IsKept}

@@ -14,7 +14,7 @@ use Rattle.service_model.specs.declared.cert.Item.TheVariants.{Head as HeadItem,
 use Rattle.service_model.specs.Net.{Net, arc_in}
 use Rattle.service_model.specs.Plans.{cost_of}
 use Rattle.service_model.specs.Search.{sum_below}
-use Rattle.service_model.specs.Faults.{IsNetwork}
+use Rattle.service_model.specs.Networks.{IsNetwork}
 use Rattle.service_model.specs.Nodes.{bound_of}
 use Rattle.service_model.specs.CertRanges.{Cut, no_cut, cut_at, node_range, IsLeaf}
 use Rattle.service_model.specs.Repairs.{Raise, IsCandidate, Found}

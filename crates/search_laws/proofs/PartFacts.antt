@@ -5,7 +5,7 @@ use Rattle.std.proofs.lemmas.List.{get_or-map, get_or-set_same, get_or-set_other
 use Rattle.service_model.specs.declared.stage.Stage.{Stage}
 use Rattle.service_model.specs.declared.range.Range.{Range}
 use Rattle.service_model.specs.Net.{Net, no_stage, stage_at}
-use Rattle.service_model.specs.Faults.{IsNetwork}
+use Rattle.service_model.specs.Networks.{IsNetwork}
 use Rattle.service_model.specs.Ranges.{HasIntervals, HoldsTime, whole_of, ended, started}
 
 -- the range has an interval for each stage, within the stage's own

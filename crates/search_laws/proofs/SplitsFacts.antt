@@ -13,7 +13,7 @@ use Rattle.service_model.specs.declared.cert.Item.{Item}
 use Rattle.service_model.specs.declared.cert.Item.TheVariants.{Head as HeadItem, Table as TableItem, Node as NodeItem, Split as SplitItem, End as EndItem}
 use Rattle.service_model.specs.Net.{Net}
 use Rattle.service_model.specs.Plans.{inbound_at, outbound_at}
-use Rattle.service_model.specs.Faults.{IsNetwork}
+use Rattle.service_model.specs.Networks.{IsNetwork}
 use Rattle.service_model.specs.Tables.{Supplies, transit_in}
 use Rattle.service_model.specs.CertRanges.{Cut}
 use Rattle.service_model.specs.Held.{Held, none_held, held_with, held_after, no_node, node_at, no_plan, relaxed_at, cut_by, cuts_of}

@@ -3,7 +3,7 @@ use Rattle.std.specs.Prelude.{◌≡◌, ◌<◌, ◌≤◌, [], length}
 use Rattle.service_model.specs.declared.cert.Outcome.TheVariants.{Spent}
 use Rattle.service_model.specs.declared.cert.Cert.{Cert}
 use Rattle.service_model.specs.Net.{Net}
-use Rattle.service_model.specs.Faults.{IsNetwork}
+use Rattle.service_model.specs.Networks.{IsNetwork}
 use Rattle.service_model.specs.Items.{items_of}
 use Rattle.service_model.specs.Held.{none_held}
 use Rattle.tree_order.specs.declared.forest.Forest.{Forest}

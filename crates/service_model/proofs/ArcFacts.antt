@@ -6,7 +6,8 @@ use Rattle.std.proofs.lemmas.List.{get_or_default}
 use Rattle.service_model.specs.declared.stage.SupplyArc.{SupplyArc}
 use Rattle.service_model.specs.Net.{Net, no_arc, arc_in}
 use Rattle.service_model.specs.Walks.{Leads}
-use Rattle.service_model.specs.Faults.{IsSameEnds, IsNetwork}
+use Rattle.service_model.specs.Faults.{IsSameEnds}
+use Rattle.service_model.specs.Networks.{IsNetwork}
 use Rattle.service_model.specs.Tables.{Supplies, transit_in}
 
 -- an arc that leads from stage i to stage j, in both forms

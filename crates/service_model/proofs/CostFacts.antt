@@ -9,7 +9,8 @@ use Rattle.service_model.specs.declared.plan.Plan.{Plan}
 use Rattle.service_model.specs.Net.{Net, stage_at}
 use Rattle.service_model.specs.Search.{sum_below}
 use Rattle.service_model.specs.Plans.{entry_of, charge, inbound_at, outbound_at, stage_cost, cost_of, Feasible}
-use Rattle.service_model.specs.Faults.{top_of, IsNetwork}
+use Rattle.service_model.specs.Faults.{top_of}
+use Rattle.service_model.specs.Networks.{IsNetwork}
 use Rattle.service_model.proofs.TopFacts.{entry_below_top}
 use Rattle.service_model.proofs.SearchFacts.{sum_below_le, sum_below_grows}
 

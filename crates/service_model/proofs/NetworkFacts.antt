@@ -18,7 +18,8 @@ use Rattle.service_model.specs.Net.{Net, net_of, stage_at, no_stage, arc_in, no_
 use Rattle.service_model.specs.Search.{first_of}
 use Rattle.service_model.specs.Walks.{NoCycle}
 use Rattle.service_model.specs.Customers.{HasEnds}
-use Rattle.service_model.specs.Faults.{fails_at, has_bad_times, has_bad_length, has_bad_entry, has_bad_ends, has_long_transit, same_ends, IsSameEnds, stands_twice, tops_below, rules_before_cycle, rules_from_cycle, FirstFromCycle, IsFirstFault, StageWithin, ArcWithin, IsNetwork, MakesNetwork}
+use Rattle.service_model.specs.Faults.{fails_at, has_bad_times, has_bad_length, has_bad_entry, has_bad_ends, has_long_transit, same_ends, IsSameEnds, stands_twice, tops_below, rules_before_cycle, rules_from_cycle, FirstFromCycle, IsFirstFault, MakesNetwork}
+use Rattle.service_model.specs.Networks.{StageWithin, ArcWithin, IsNetwork}
 use Rattle.service_model.proofs.SearchFacts.{first_of_none}
 use Rattle.service_model.proofs.FaultFacts.{no_fault, none_fails_at, none_fails_below}
 

@@ -13,7 +13,8 @@ use Rattle.service_model.specs.declared.stage.SupplyArc.{SupplyArc}
 use Rattle.service_model.specs.Net.{Net, stage_at, arc_in, no_stage, no_arc}
 use Rattle.service_model.specs.Walks.{NoCycle, IsFirstOnCycle}
 use Rattle.service_model.specs.Search.{first_of}
-use Rattle.service_model.specs.Faults.{fault_at, fails_if, fails_at, fails_below, has_bad_times, has_bad_length, has_bad_entry, has_bad_ends, same_ends, IsSameEnds, stands_twice, has_long_transit, tops_below, top_of, rules_before_cycle, rules_from_cycle, FirstFromCycle, IsFirstFault, StageWithin, ArcWithin, IsNetwork, KeepsLimits}
+use Rattle.service_model.specs.Faults.{fault_at, fails_if, fails_at, fails_below, has_bad_times, has_bad_length, has_bad_entry, has_bad_ends, same_ends, IsSameEnds, stands_twice, has_long_transit, tops_below, top_of, rules_before_cycle, rules_from_cycle, FirstFromCycle, IsFirstFault}
+use Rattle.service_model.specs.Networks.{StageWithin, ArcWithin, IsNetwork, KeepsLimits}
 use Rattle.service_model.proofs.SearchFacts.{AllNone, below_none, sum_below_grows}
 
 first_of_all_none : {A : Type 0} (xs : List (Option A)) → AllNone xs → first_of xs ≡ None

@@ -24,9 +24,11 @@ stage_rules horizon place s inbound outbound =
     ∷ broken_if place NOT_ALLOWED (nat_le INF (charge s.lead s.cost inbound outbound))
     ∷ []
 
+-- the first rule that the plan breaks at stage j
 abbrev pub stage_break : Net → Plan → ℕ → Option Break
 stage_break n p j = first_of (stage_rules n.horizon j (stage_at n j) (inbound_at p j) (outbound_at p j))
 
+-- the rule that the plan breaks at arc a, where the customer does not wait
 abbrev pub arc_break : Net → Plan → ℕ → Option Break
 arc_break n p a =
     broken_if a NOT_WAITED (nat_lt (inbound_at p (arc_in n.arcs a).customer) (outbound_at p (arc_in n.arcs a).supplier + (arc_in n.arcs a).transit))

@@ -16,12 +16,14 @@ pub record PlanInRange (p : Plan) : Type 0 where
   pub inbound : All (λ time. time ≤ MAX_TIME) p.inbound
   pub outbound : All (λ time. time ≤ MAX_TIME) p.outbound
 
+-- a head's numbers are in their ranges
 pub record HeadInRange (h : Head) : Type 0 where
   pub horizon : h.horizon ≤ MAX_TIME
   pub stages : h.stages ≤ MAX_NUMBER
   pub some_budget : 1 ≤ h.budget
   pub budget : h.budget ≤ MAX_BUDGET
 
+-- a table's numbers are in their ranges
 pub record TableInRange (t : Table) : Type 0 where
   pub stage : t.stage ≤ MAX_NUMBER
   pub least : t.least ≤ MAX_TIME
@@ -30,15 +32,18 @@ pub record TableInRange (t : Table) : Type 0 where
   pub children : All (λ c. c ≤ MAX_NUMBER) t.children
   pub values : All (λ x. x ≤ INF) t.values
 
+-- a node's roots and times are in their ranges
 pub record NodeInRange (x : Node) : Type 0 where
   pub roots : All (λ k. k ≤ MAX_NUMBER) x.roots
   pub relaxed : IfSome x.relaxed PlanInRange
 
+-- a split's numbers are in their ranges
 pub record SplitInRange (s : Split) : Type 0 where
   pub node : s.node ≤ MAX_NUMBER
   pub supplier : s.supplier ≤ MAX_NUMBER
   pub customer : s.customer ≤ MAX_NUMBER
 
+-- a verdict's bound and times are in their ranges
 pub record VerdictInRange (v : Verdict) : Type 0 where
   pub bound : v.bound ≤ INF
   pub plan : IfSome v.plan PlanInRange

@@ -13,6 +13,7 @@ pub record Cut : Type 0 where
   pub stage : ℕ
   pub last : ℕ
 
+-- what stands for a cut that there is not
 abbrev pub no_cut : Cut
 no_cut = record { node = 0; stage = 0; last = 0 }
 
@@ -20,6 +21,7 @@ no_cut = record { node = 0; stage = 0; last = 0 }
 abbrev pub cut_at : List Cut → ℕ → Cut
 cut_at cuts k = slice_index_or cuts k no_cut
 
+-- what stands for a range that there is not
 abbrev pub no_range : Range
 no_range = record { least = []; most = [] }
 

@@ -13,7 +13,8 @@ use Rattle.service_model.specs.declared.cert.Item.{Item}
 use Rattle.service_model.specs.declared.cert.Item.TheVariants.{Head as HeadItem, Table as TableItem, Node as NodeItem, Split as SplitItem, End as EndItem}
 use Rattle.service_model.specs.Net.{Net}
 use Rattle.service_model.specs.Plans.{HasTimes}
-use Rattle.service_model.specs.Tables.{table_at, Local, IsChild, IsSized}
+use Rattle.service_model.specs.Tables.{table_at, IsChild, IsSized}
+use Rattle.service_model.specs.LocalSums.{Local}
 use Rattle.service_model.specs.Nodes.{below_roots, Fits, IsOnce}
 use Rattle.service_model.specs.Repairs.{Found}
 use Rattle.service_model.specs.Verdicts.{Ends, ending_plan}

@@ -1,5 +1,5 @@
 -- The rules on networks, in their order, and the first that fails.
-use Rattle.std.specs.Prelude.{◌≡◌, ◌≢◌, ℕ, suc, ◌+◌, ◌<◌, ◌≤◌, Bool, ◌||◌, ◌&&◌, ◌==◌, nat_lt, nat_le, max, Option, Some, None, Result, Ok, Err, ⊤, List, [], ◌∷◌, length, take, position, option_map, MatchOption, All, if◌then◌else◌}
+use Rattle.std.specs.Prelude.{◌≡◌, ℕ, suc, ◌+◌, Bool, ◌||◌, ◌&&◌, ◌==◌, nat_lt, nat_le, max, Option, Some, None, Result, Ok, Err, ⊤, List, [], ◌∷◌, length, take, position, option_map, MatchOption, if◌then◌else◌}
 use Rattle.std.specs.List.{list_any}
 use Rattle.service_model.specs.declared.limits.TheConstants.{INF, MAX_HORIZON, MAX_STAGES, MAX_ARCS, MAX_TIME, MAX_BEYOND, MAX_PLAN_COST}
 use Rattle.service_model.specs.declared.faults.TheConstants.{LONG_HORIZON, STAGE_COUNT, STAGE_TIMES, COST_LENGTH, COST_ENTRY, ARC_COUNT, ARC_ENDS, ARC_TWICE, ON_CYCLE, LONG_TRANSIT}
@@ -9,9 +9,10 @@ use Rattle.service_model.specs.declared.faults.NewFault.TheVariants.{Rule, NoMem
 use Rattle.service_model.specs.declared.stage.Stage.{Stage}
 use Rattle.service_model.specs.declared.stage.SupplyArc.{SupplyArc}
 use Rattle.service_model.specs.Net.{Net, stage_at, arc_in}
-use Rattle.service_model.specs.Walks.{NoCycle, IsFirstOnCycle}
+use Rattle.service_model.specs.Walks.{IsFirstOnCycle}
 use Rattle.service_model.specs.Search.{first_of, first_below, sum_below}
 
+-- the rule of this number, failed at this place
 abbrev pub fault_at : ℕ → ℕ → NetworkFault
 fault_at rule place = record { rule = rule; place = place }
 
@@ -56,6 +57,7 @@ has_bad_ends stages a = nat_le stages a.supplier || nat_le stages a.customer || 
 abbrev pub same_ends : SupplyArc → SupplyArc → Bool
 same_ends a b = (a.supplier == b.supplier) && (a.customer == b.customer)
 
+-- two arcs have one supplier and one customer
 abbrev pub IsSameEnds : SupplyArc → SupplyArc → Type 0
 IsSameEnds a b = (a.supplier ≡ b.supplier) × (a.customer ≡ b.customer)
 
@@ -63,6 +65,7 @@ IsSameEnds a b = (a.supplier ≡ b.supplier) × (a.customer ≡ b.customer)
 unfoldable pub stands_twice : List SupplyArc → ℕ → Bool
 stands_twice arcs a = list_any (same_ends (arc_in arcs a)) (take a arcs)
 
+-- the transit time of an arc is too long
 unfoldable pub has_long_transit : SupplyArc → Bool
 has_long_transit a = nat_lt MAX_TIME a.transit
 
@@ -86,6 +89,7 @@ rules_from_cycle n first =
     ∷ fails_at LONG_TRANSIT has_long_transit n.arcs
     ∷ []
 
+-- the fault is the first of the rules from the one on cycles on
 abbrev pub FirstFromCycle : Net → Option NetworkFault → Type 0
 FirstFromCycle n fault =
     (first : Option ℕ) × IsFirstOnCycle (length n.stages) n.arcs first × (fault ≡ first_of (rules_from_cycle n first))
@@ -99,43 +103,3 @@ abbrev pub MakesNetwork : Net → Result Net NewFault → Type 0
 MakesNetwork n (Ok made) = (made ≡ n) × IsFirstFault n None
 MakesNetwork n (Err (Rule f)) = IsFirstFault n (Some f)
 MakesNetwork n (Err NoMemory) = ⊤
-
--- a stage keeps its limits under a horizon
-pub record StageWithin (horizon : ℕ) (s : Stage) : Type 0 where
-  pub lead : s.lead ≤ MAX_TIME
-  pub supply : s.supply ≤ horizon
-  pub most : s.most ≤ horizon
-  pub least : s.least ≤ s.most
-  pub some_cost : 0 < length s.cost
-  pub cost_length : length s.cost ≤ horizon + MAX_BEYOND
-  pub entries : All (λ x. x ≤ INF) s.cost
-
--- an arc joins two different stages of so many
-pub record ArcWithin (stages : ℕ) (a : SupplyArc) : Type 0 where
-  pub supplier : a.supplier < stages
-  pub customer : a.customer < stages
-  pub apart : a.supplier ≢ a.customer
-  pub transit : a.transit ≤ MAX_TIME
-
--- all rules hold
-pub record IsNetwork (n : Net) : Type 0 where
-  pub horizon : n.horizon ≤ MAX_HORIZON
-  pub some_stage : 0 < length n.stages
-  pub few_stages : length n.stages ≤ MAX_STAGES
-  pub stages : (j : ℕ) → j < length n.stages → StageWithin n.horizon (stage_at n j)
-  pub payable : tops_below n (length n.stages) ≤ MAX_PLAN_COST
-  pub few_arcs : length n.arcs ≤ MAX_ARCS
-  pub arcs : (a : ℕ) → a < length n.arcs → ArcWithin (length n.stages) (arc_in n.arcs a)
-  pub once : (a b : ℕ) → a < b → b < length n.arcs → IsSameEnds (arc_in n.arcs a) (arc_in n.arcs b) → ⊥
-  pub acyclic : NoCycle (length n.stages) n.arcs
-
--- all rules hold, but perhaps the one on cycles
-pub record KeepsLimits (n : Net) : Type 0 where
-  pub horizon : n.horizon ≤ MAX_HORIZON
-  pub some_stage : 0 < length n.stages
-  pub few_stages : length n.stages ≤ MAX_STAGES
-  pub stages : (j : ℕ) → j < length n.stages → StageWithin n.horizon (stage_at n j)
-  pub payable : tops_below n (length n.stages) ≤ MAX_PLAN_COST
-  pub few_arcs : length n.arcs ≤ MAX_ARCS
-  pub arcs : (a : ℕ) → a < length n.arcs → ArcWithin (length n.stages) (arc_in n.arcs a)
-  pub once : (a b : ℕ) → a < b → b < length n.arcs → IsSameEnds (arc_in n.arcs a) (arc_in n.arcs b) → ⊥

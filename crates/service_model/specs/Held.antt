@@ -15,6 +15,7 @@ use Rattle.service_model.specs.Tables.{transit_in}
 use Rattle.service_model.specs.CertRanges.{Cut, node_range, node_bound}
 use Rattle.service_model.specs.Verdicts.{Searched}
 
+-- what came of a certificate: the items of each kind, in the order in which they came
 pub record Held : Type 0 where
   pub head : Option Head
   pub tables : List Table
@@ -22,6 +23,7 @@ pub record Held : Type 0 where
   pub splits : List Split
   pub verdict : Option Verdict
 
+-- nothing came
 abbrev pub none_held : Held
 none_held = record { head = None; tables = []; nodes = []; splits = []; verdict = None }
 
@@ -42,6 +44,7 @@ held_after h (x ∷ items) = held_after (held_with h x) items
 abbrev pub budget_of : Held → ℕ
 budget_of h = unwrap_or (option_map (λ g. g.budget) h.head) 0
 
+-- what stands for a node that there is not
 abbrev pub no_node : Node
 no_node = record { seen = 0; roots = []; relaxed = None }
 
@@ -49,6 +52,7 @@ no_node = record { seen = 0; roots = []; relaxed = None }
 abbrev pub node_at : List Node → ℕ → Node
 node_at nodes k = slice_index_or nodes k no_node
 
+-- what stands for a plan that there is not
 abbrev pub no_plan : Plan
 no_plan = record { inbound = []; outbound = [] }
 

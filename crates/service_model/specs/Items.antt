@@ -9,6 +9,7 @@ use Rattle.service_model.specs.declared.cert.Cert.{Cert}
 use Rattle.service_model.specs.declared.cert.Item.{Item}
 use Rattle.service_model.specs.declared.cert.Item.TheVariants.{Head as HeadItem, Table as TableItem, Node as NodeItem, Split as SplitItem, End as EndItem}
 
+-- the item is a head
 abbrev pub is_head : Item → Bool
 is_head (HeadItem h) = true
 is_head (TableItem t) = false

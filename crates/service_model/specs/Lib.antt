@@ -4,6 +4,7 @@ pub mod Plans
 pub mod Breaks
 pub mod Walks
 pub mod Faults
+pub mod Networks
 pub mod Ends
 pub mod Customers
 pub mod Orders
@@ -11,6 +12,7 @@ pub mod Waits
 pub mod Marks
 pub mod Ranges
 pub mod Tables
+pub mod LocalSums
 pub mod Nodes
 pub mod Forests
 pub mod Relaxed

@@ -10,7 +10,8 @@ use Rattle.service_model.specs.declared.table.Table.{Table}
 use Rattle.service_model.specs.Net.{Net}
 use Rattle.service_model.specs.Plans.{inbound_at, outbound_at}
 use Rattle.service_model.specs.Ranges.{floor_of}
-use Rattle.service_model.specs.Tables.{table_at, transit_in, value_at, capped, Covers, Local, Tight, IsShaped}
+use Rattle.service_model.specs.Tables.{table_at, transit_in, value_at, IsShaped}
+use Rattle.service_model.specs.LocalSums.{capped, Covers, Local, Tight}
 
 -- the table and those below its children, at most so many steps deep, as a list with repeats
 abbrev pub below_within : ℕ → List Table → ℕ → List ℕ

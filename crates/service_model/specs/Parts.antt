@@ -20,6 +20,7 @@ pub record Gathered : Type 0 where
   pub verdict : Option Verdict
   pub in_order : Bool
 
+-- the lists behind the parts
 abbrev pub gathered_by : Parts → Gathered
 gathered_by p = record {
   head = p.head;
@@ -30,6 +31,7 @@ gathered_by p = record {
   in_order = p.in_order;
 }
 
+-- nothing is gathered
 abbrev pub none_gathered : Gathered
 none_gathered = record { head = None; tables = []; nodes = []; splits = []; verdict = None; in_order = true }
 
@@ -37,6 +39,7 @@ none_gathered = record { head = None; tables = []; nodes = []; splits = []; verd
 abbrev pub may_come : Gathered → Item → Bool
 may_come g item = is_none g.verdict && (if is_none g.head then is_head item else not (is_head item))
 
+-- an item joins those of its kind
 abbrev pub with_part : Gathered → Bool → Item → Gathered
 with_part g in_order (HeadItem h) = record g { head = Some h; in_order = in_order }
 with_part g in_order (TableItem t) = record g { tables = g.tables ++ t ∷ []; in_order = in_order }
@@ -53,6 +56,7 @@ abbrev pub with_items : Gathered → List Item → Gathered
 with_items g [] = g
 with_items g (x ∷ items) = with_items (with_item g x) items
 
+-- the certificate of what is gathered with a head and a verdict, where there are both
 abbrev pub cert_with : Gathered → Option Head → Option Verdict → Option Cert
 cert_with g None verdict = None
 cert_with g (Some h) None = None

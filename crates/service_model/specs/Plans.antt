@@ -16,9 +16,11 @@ abbrev pub charge : ℕ → List ℕ → ℕ → ℕ → ℕ
 charge lead cost inbound outbound =
     if nat_le outbound (inbound + lead) then entry_of cost (inbound + lead - outbound) else INF
 
+-- the inbound time of stage j
 abbrev pub inbound_at : Plan → ℕ → ℕ
 inbound_at p j = slice_index p.inbound j
 
+-- the outbound time of stage j
 abbrev pub outbound_at : Plan → ℕ → ℕ
 outbound_at p j = slice_index p.outbound j
 
@@ -43,6 +45,7 @@ pub record FitsTimes (horizon : ℕ) (s : Stage) (inbound outbound : ℕ) : Type
   pub not_late : outbound ≤ s.most
   pub allowed : charge s.lead s.cost inbound outbound < INF
 
+-- the plan's times at stage j fit the stage
 abbrev pub FitsStage : Net → Plan → ℕ → Type 0
 FitsStage n p j = FitsTimes n.horizon (stage_at n j) (inbound_at p j) (outbound_at p j)
 

@@ -1,12 +1,10 @@
--- Tables over a network, and which of them bound what plans cost.
-use Rattle.std.specs.Prelude.{◌≡◌, ℕ, ◌+◌, ◌-◌, ◌<◌, ◌≤◌, ◌==◌, ◌&&◌, ◌⊎◌, min, List, [], ◌∷◌, length, slice_index, slice_index_or, take, drop, sum_by, All, Any, if◌then◌else◌}
-use Rattle.service_model.specs.declared.limits.TheConstants.{INF}
+-- Tables over a network: their kinds, places and shapes.
+use Rattle.std.specs.Prelude.{◌≡◌, ℕ, ◌+◌, ◌-◌, ◌<◌, ◌≤◌, ◌==◌, ◌&&◌, List, [], ◌∷◌, length, slice_index, slice_index_or, All, Any, if◌then◌else◌}
 use Rattle.service_model.specs.declared.stage.SupplyArc.{SupplyArc}
 use Rattle.service_model.specs.declared.table.Kind.{Kind}
 use Rattle.service_model.specs.declared.table.Kind.TheVariants.{Down, Up, Root}
 use Rattle.service_model.specs.declared.table.Table.{Table}
-use Rattle.service_model.specs.Net.{Net, stage_at}
-use Rattle.service_model.specs.Plans.{charge}
+use Rattle.service_model.specs.Net.{Net}
 
 -- what stands for a table that there is not
 abbrev pub no_table : Table
@@ -24,15 +22,6 @@ Supplies arcs i j = Any (λ a. (a.supplier ≡ i) × (a.customer ≡ j)) arcs
 abbrev pub transit_in : List SupplyArc → ℕ → ℕ → ℕ
 transit_in [] i j = 0
 transit_in (a ∷ arcs) i j = if (a.supplier == i) && (a.customer == j) then a.transit else transit_in arcs i j
-
--- the number, or INF where that is less
-abbrev pub capped : ℕ → ℕ
-capped x = min x INF
-
--- the least number of a list, INF where all are more or there is none
-abbrev pub least_of : List ℕ → ℕ
-least_of [] = INF
-least_of (x ∷ xs) = min x (least_of xs)
 
 -- how many values a table of the kind has, under a horizon, an interval and a floor
 abbrev pub width : Kind → ℕ → ℕ → ℕ → ℕ → ℕ
@@ -52,12 +41,6 @@ child_transit Down arcs c j = transit_in arcs c j
 child_transit Up arcs c j = transit_in arcs j c
 child_transit Root arcs c j = 0
 
--- the least of a child's values at times that its parent's times allow, across a transit
-abbrev pub child_least : Kind → ℕ → ℕ → ℕ → List ℕ → ℕ → ℕ → ℕ
-child_least Down transit least floor values inbound outbound = least_of (take (inbound + 1 - (least + transit)) values)
-child_least Up transit least floor values inbound outbound = least_of (drop (outbound + transit - floor) values)
-child_least Root transit least floor values inbound outbound = INF
-
 -- which of the table's values stands for two times
 abbrev pub place_of : Table → ℕ → ℕ → ℕ
 place_of t inbound outbound = place t.kind t.least t.floor inbound outbound
@@ -65,45 +48,6 @@ place_of t inbound outbound = place t.kind t.least t.floor inbound outbound
 -- the table's value at two times
 abbrev pub value_at : Table → ℕ → ℕ → ℕ
 value_at t inbound outbound = slice_index t.values (place_of t inbound outbound)
-
--- the least value of the child c at times that these times of its parent t allow
-abbrev pub least_below : Net → Table → ℕ → ℕ → Table → ℕ
-least_below n t inbound outbound c =
-    child_least c.kind (child_transit c.kind n.arcs c.stage t.stage) c.least c.floor c.values inbound outbound
-
--- what these times cost at the table's stage and, at least, below it
-abbrev pub local_sum : Net → List Table → Table → ℕ → ℕ → ℕ
-local_sum n tables t inbound outbound =
-    capped (charge (stage_at n t.stage).lead (stage_at n t.stage).cost inbound outbound
-    + sum_by (λ c. least_below n t inbound outbound (table_at tables c)) t.children)
-
--- the times lie in the table's interval, and between its floor and the horizon
-pub record Covers (n : Net) (t : Table) (inbound outbound : ℕ) : Type 0 where
-  pub not_early : t.least ≤ outbound
-  pub not_late : outbound ≤ t.most
-  pub not_below : t.floor ≤ inbound
-  pub not_above : inbound ≤ n.horizon
-
--- each value is at most every local sum that it covers
-abbrev pub Local : Net → List Table → Table → Type 0
-Local n tables t =
-    (inbound outbound : ℕ) → Covers n t inbound outbound → value_at t inbound outbound ≤ local_sum n tables t inbound outbound
-
--- the number is the local sum of times whose value stands at the place
-abbrev pub ComesFrom : Net → List Table → Table → ℕ → ℕ → Type 0
-ComesFrom n tables t k value =
-    (inbound : ℕ) × (outbound : ℕ) × Covers n t inbound outbound × (place_of t inbound outbound ≡ k)
-    × (value ≡ local_sum n tables t inbound outbound)
-
--- each value is INF or a local sum that it covers
-abbrev pub Reached : Net → List Table → Table → Type 0
-Reached n tables t =
-    (k : ℕ) → k < length t.values → (slice_index t.values k ≡ INF) ⊎ ComesFrom n tables t k (slice_index t.values k)
-
--- each value is the least local sum that it covers, INF where it covers none
-pub record Tight (n : Net) (tables : List Table) (t : Table) : Type 0 where
-  pub lower : Local n tables t
-  pub reached : Reached n tables t
 
 -- a table of the kind and of stage c may be a child of one of stage j
 abbrev pub IsChild : Kind → List SupplyArc → ℕ → ℕ → Type 0
@@ -124,13 +68,3 @@ pub record IsShaped (n : Net) (tables : List Table) (count : ℕ) (t : Table) : 
   pub sized : IsSized n t
   pub earlier : All (λ c. c < count) t.children
   pub children : All (λ c. IsChild (table_at tables c).kind n.arcs (table_at tables c).stage t.stage) t.children
-
--- each table has its shape over the tables before it, and its values are at most the local sums
-pub record Sound (n : Net) (tables : List Table) : Type 0 where
-  pub shaped : (i : ℕ) → i < length tables → IsShaped n tables i (table_at tables i)
-  pub lower : (i : ℕ) → i < length tables → Local n tables (table_at tables i)
-
--- each table has its shape over the tables before it, and its values are the least local sums
-pub record AllTight (n : Net) (tables : List Table) : Type 0 where
-  pub shaped : (i : ℕ) → i < length tables → IsShaped n tables i (table_at tables i)
-  pub tight : (i : ℕ) → i < length tables → Tight n tables (table_at tables i)

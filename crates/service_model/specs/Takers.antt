@@ -25,6 +25,7 @@ pub record TakerState : Type 1 where
   pub stops : ℕ
   pub refuses : Item → Type 0
 
+-- a taker's state by its three meanings
 abbrev pub state_of : (List Item → Type 0) → ℕ → (Item → Type 0) → TakerState
 state_of stands stops refuses = record { stands = stands; stops = stops; refuses = refuses }
 

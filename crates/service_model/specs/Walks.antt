@@ -16,6 +16,7 @@ Walk arcs i j (suc n) = (m : ℕ) × Walk arcs i m n × Leads arcs m j
 abbrev pub ReachesItself : List SupplyArc → ℕ → Type 0
 ReachesItself arcs j = (n : ℕ) × Walk arcs j j (suc n)
 
+-- no stage reaches itself
 abbrev pub NoCycle : ℕ → List SupplyArc → Type 0
 NoCycle stages arcs = (j : ℕ) → j < stages → ¬ ReachesItself arcs j
 

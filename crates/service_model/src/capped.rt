@@ -1,6 +1,6 @@
 // Sums that stop at `INF`.
 ghost use Rattle.std.specs.Prelude.{◌≡◌, ◌+◌, ◌≤◌};
-ghost use Rattle.service_model.specs.Tables.{capped};
+ghost use Rattle.service_model.specs.LocalSums.{capped};
 
 use crate::INF;
 

@@ -30,6 +30,8 @@ mod tests;
 #[cfg(test)]
 mod tests_cert;
 #[cfg(test)]
+mod tests_numbers;
+#[cfg(test)]
 mod tests_orders;
 #[cfg(test)]
 mod tests_ranges;

@@ -19,7 +19,7 @@ impl Model for Network {
 
     ghost Value = { Net };
 
-    ghost use Rattle.service_model.specs.Faults.{IsNetwork};
+    ghost use Rattle.service_model.specs.Networks.{IsNetwork};
 
     ghost view = { λ n. record { horizon = n.horizon; stages = n.stages; arcs = n.arcs } };
 
@@ -29,7 +29,8 @@ impl Model for Network {
 impl Network {
     ghost use Rattle.service_model.specs.Net.{net_of, stage_at};
     ghost use Rattle.service_model.specs.Plans.{Feasible, cost_of, entry_of};
-    ghost use Rattle.service_model.specs.Faults.{IsNetwork, MakesNetwork};
+    ghost use Rattle.service_model.specs.Faults.{MakesNetwork};
+    ghost use Rattle.service_model.specs.Networks.{IsNetwork};
 
     /// The network of these three, or the first rule that fails. On a refusal the lists are given up.
     pub fn new(

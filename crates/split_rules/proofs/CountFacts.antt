@@ -7,7 +7,8 @@ use Rattle.std.proofs.lemmas.List.Elements.{recursion_from_All}
 use Rattle.std.proofs.lemmas.List.Concat.{flat_map-append}
 use Rattle.service_model.specs.declared.table.Table.{Table}
 use Rattle.service_model.specs.Net.{Net}
-use Rattle.service_model.specs.Tables.{table_at, Sound}
+use Rattle.service_model.specs.Tables.{table_at}
+use Rattle.service_model.specs.LocalSums.{Sound}
 use Rattle.service_model.specs.Nodes.{below, below_within, below_roots, IsOnce, IsSoundAt}
 use Rattle.gsm_laws.specs.Traces.{IsAbsent}
 use Rattle.gsm_laws.proofs.ElementFacts.{each, each_two, all_parts}

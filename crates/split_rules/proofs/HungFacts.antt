@@ -9,8 +9,9 @@ use Rattle.service_model.specs.declared.table.Kind.TheVariants.{Down, Up, Root}
 use Rattle.service_model.specs.declared.table.Table.{Table}
 use Rattle.service_model.specs.Net.{Net, no_arc, arc_in}
 use Rattle.service_model.specs.Plans.{Meets, inbound_at, outbound_at}
-use Rattle.service_model.specs.Faults.{IsNetwork}
-use Rattle.service_model.specs.Tables.{table_at, IsChild, Sound}
+use Rattle.service_model.specs.Networks.{IsNetwork}
+use Rattle.service_model.specs.Tables.{table_at, IsChild}
+use Rattle.service_model.specs.LocalSums.{Sound}
 use Rattle.service_model.specs.Nodes.{MeetsChild}
 use Rattle.service_model.specs.Earned.{MeetsChildren}
 use Rattle.service_model.proofs.ArcFacts.{transit_in-arc, leads_from_supplies}

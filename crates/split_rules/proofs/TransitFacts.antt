@@ -2,7 +2,7 @@
 use Rattle.std.proofs.Common.{◌≡◌, ℕ, ◌<◌, List, length, Some, None, ap, sym, ◌∙◌}
 use Rattle.service_model.specs.declared.stage.SupplyArc.{SupplyArc}
 use Rattle.service_model.specs.Net.{Net, arc_in}
-use Rattle.service_model.specs.Faults.{IsNetwork}
+use Rattle.service_model.specs.Networks.{IsNetwork}
 use Rattle.service_model.specs.Tables.{transit_in}
 use Rattle.service_model.proofs.ArcFacts.{transit_in-arc, supplies_from_leads, leads_from_supplies}
 use Rattle.service_model.proofs.NetworkFacts.{IsNetwork-HasEnds}

@@ -13,6 +13,7 @@ use Rattle.split_rules.specs.declared.links.Link.{Link}
 abbrev pub no_link : Link
 no_link = record { parent = 0; kind = Root }
 
+-- the link of stage j
 abbrev pub link_at : List Link → ℕ → Link
 link_at links j = slice_index_or links j no_link
 

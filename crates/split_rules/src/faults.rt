@@ -2,7 +2,7 @@
 ghost use Rattle.std.specs.Prelude.{◌≡◌, ◌↔◌, IfOk, IfSome, IsTrue};
 ghost use Rattle.service_model.specs.Plans.{HasTimes, Feasible};
 ghost use Rattle.service_model.specs.Ranges.{HasIntervals};
-ghost use Rattle.service_model.specs.Tables.{Sound};
+ghost use Rattle.service_model.specs.LocalSums.{Sound};
 ghost use Rattle.service_model.specs.Nodes.{IsNode};
 ghost use Rattle.service_model.specs.Repairs.{Found};
 ghost use Rattle.service_model.specs.Held.{Held, node_at, relaxed_of, range_of, bound_at};

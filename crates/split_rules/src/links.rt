@@ -1,8 +1,9 @@
 // The arcs between the tables of a node.
 ghost use Rattle.std.specs.Prelude.{◌≡◌, ◌<◌, ◌↔◌, All, IfOk, IsTrue, length, replicate};
 ghost use Rattle.service_model.specs.Plans.{HasTimes, Meets};
-ghost use Rattle.service_model.specs.Faults.{IsNetwork};
-ghost use Rattle.service_model.specs.Tables.{Sound, table_at};
+ghost use Rattle.service_model.specs.Networks.{IsNetwork};
+ghost use Rattle.service_model.specs.Tables.{table_at};
+ghost use Rattle.service_model.specs.LocalSums.{Sound};
 ghost use Rattle.service_model.specs.Nodes.{below_roots, IsOnce};
 
 use node_rules::{table_in, walk};

@@ -2,7 +2,7 @@
 ghost use Rattle.std.specs.Prelude.{◌≡◌, ℕ, ◌<◌, ◌↔◌, IfOk, IsTrue, length};
 ghost use Rattle.service_model.specs.Plans.{HasTimes, stage_cost, cost_of};
 ghost use Rattle.service_model.specs.Ranges.{HasIntervals, AreFloors};
-ghost use Rattle.service_model.specs.Tables.{Sound};
+ghost use Rattle.service_model.specs.LocalSums.{Sound};
 ghost use Rattle.service_model.specs.Nodes.{IsNode};
 ghost use Rattle.service_model.specs.Relaxed.{FitsRange};
 ghost use Rattle.split_rules.specs.Relaxed.{FitsAll, IsRelaxedOf};

@@ -4,7 +4,8 @@ ghost use Rattle.std.specs.Prelude.{◌≡◌, ℕ, ◌<◌, All, IfOk, IfSome, 
 ghost use Rattle.service_model.specs.Plans.{Feasible, HasTimes};
 ghost use Rattle.service_model.specs.Nodes.{IsNode};
 ghost use Rattle.service_model.specs.Ranges.{HasIntervals, HoldsTime, whole_of};
-ghost use Rattle.service_model.specs.Tables.{table_at, IsChild, IsShaped, IsSized, Sound, Supplies};
+ghost use Rattle.service_model.specs.Tables.{table_at, IsChild, IsShaped, IsSized, Supplies};
+ghost use Rattle.service_model.specs.LocalSums.{Sound};
 
 use crate::arcs::last_of;
 use crate::{Leaf, Leaves, Next, halves_of, split_fault};

@@ -19,7 +19,8 @@ use Rattle.stage_file.specs.Faults.{Reads, fails_if, header_fault}
 use Rattle.stage_file.specs.Fields.{is_bad_name, number_or, is_normal, factor_in}
 use Rattle.stage_file.specs.Names.{name_in}
 use Rattle.stage_file.specs.Records.{Numbered, no_record, records_of, below_header, record_at, field_in}
-use Rattle.stage_file.specs.Stages.{is_name_of, has_crossed_limits, stage_limits, stage_rules, stage_fault_at, stage_file_fault, bound_in, stage_row_of, stage_rows_of, IsBoundWithin, StageRowWithin, AreStageRows}
+use Rattle.stage_file.specs.Stages.{is_name_of, has_crossed_limits, stage_limits, stage_rules, stage_fault_at, stage_file_fault}
+use Rattle.stage_file.specs.StageRecords.{bound_in, stage_row_of, stage_rows_of, IsBoundWithin, StageRowWithin, AreStageRows}
 use Rattle.stage_file.proofs.FaultFacts.{first_of_none, none_below}
 use Rattle.stage_file.proofs.FieldFacts.{number_of_blank, number_grows}
 use Rattle.stage_file.proofs.LimitFacts.{passes, text_holds, name_holds, number_le, few_records, distinct_records}

@@ -7,6 +7,7 @@ use Rattle.gsm_nums.specs.declared.whole.NumFault.{NumFault}
 use Rattle.gsm_nums.specs.declared.whole.NumFault.TheVariants as num
 use Rattle.stage_file.specs.declared.limits.TheConstants.{MAX_NAME, MAX_FACTOR}
 
+-- the field is no UTF-8 text
 unfoldable pub is_no_text : List ℕ → Bool
 is_no_text field = not (is_utf8 field)
 
@@ -32,12 +33,14 @@ fails_as_digits (Err num.Empty) = false
 fails_as_digits (Err num.NotDigits) = true
 fails_as_digits (Err num.OutOfRange) = false
 
+-- a number is out of its range
 abbrev pub fails_as_range : Result ℕ NumFault → Bool
 fails_as_range (Ok n) = false
 fails_as_range (Err num.Empty) = false
 fails_as_range (Err num.NotDigits) = false
 fails_as_range (Err num.OutOfRange) = true
 
+-- the number, or this one where there is none
 abbrev pub value_or : ℕ → Result ℕ NumFault → ℕ
 value_or blank (Ok n) = n
 value_or blank (Err e) = blank

@@ -5,6 +5,7 @@ pub mod Seen
 pub mod Faults
 pub mod Fields
 pub mod Stages
+pub mod StageRecords
 pub mod Tables
 pub mod Arcs
 pub mod Ends

@@ -11,6 +11,7 @@ names_of_keys keys = map (λ key. key.items) keys
 abbrev pub AreDistinct : List (List ℕ) → Type 0
 AreDistinct names = AllPairs (λ a b. a ≢ b) names
 
+-- the first field of a record
 abbrev pub name_in : Numbered → List ℕ
 name_in r = field_in r.fields 1
 

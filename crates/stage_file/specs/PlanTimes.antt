@@ -30,10 +30,12 @@ abbrev pub put_at : Option ℕ → Times → List (Option Times) → List (Optio
 put_at None new times = times
 put_at (Some stage) new times = slice_set times stage (Some new)
 
+-- the inbound time, 0 where none is given
 abbrev pub inbound_of : Option Times → ℕ
 inbound_of None = 0
 inbound_of (Some t) = t.inbound
 
+-- the outbound time, 0 where none is given
 abbrev pub outbound_of : Option Times → ℕ
 outbound_of None = 0
 outbound_of (Some t) = t.outbound

@@ -5,7 +5,8 @@ use Rattle.stage_file.specs.declared.fault.FileFault.{FileFault}
 use Rattle.stage_file.specs.declared.raw.Files.{Files}
 use Rattle.stage_file.specs.declared.raw.RawNet.{RawNet}
 use Rattle.stage_file.specs.Records.{AreCountable}
-use Rattle.stage_file.specs.Stages.{stage_file_fault, stage_rows_of, AreStageRows}
+use Rattle.stage_file.specs.Stages.{stage_file_fault}
+use Rattle.stage_file.specs.StageRecords.{stage_rows_of, AreStageRows}
 use Rattle.stage_file.specs.Tables.{table_file_fault, table_rows_of, AreTableRows}
 use Rattle.stage_file.specs.Arcs.{arc_file_fault, arc_rows_of, names_of, AreArcRows}
 

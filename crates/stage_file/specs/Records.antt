@@ -2,10 +2,12 @@
 use Rattle.std.specs.Prelude.{ℕ, ◌+◌, ◌-◌, ◌<◌, ◌^◌, ◌==◌, List, [], ◌∷◌, ◌++◌, length, drop, slice_index_or, All, if◌then◌else◌}
 use Rattle.stage_file.specs.Rows.{without_blank_end}
 
+-- a record: its number and its fields
 pub record Numbered : Type 0 where
   pub number : ℕ
   pub fields : List (List ℕ)
 
+-- what stands for a record that there is not
 abbrev pub no_record : Numbered
 no_record = record { number = 0; fields = [] }
 
@@ -27,6 +29,7 @@ records_of rows = numbered 1 rows
 abbrev pub below_header : List Numbered → List Numbered
 below_header records = drop 1 records
 
+-- record k of a list
 abbrev pub record_at : List Numbered → ℕ → Numbered
 record_at records k = slice_index_or records k no_record
 

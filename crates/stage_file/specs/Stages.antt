@@ -1,19 +1,16 @@
 -- The rules and the records of a stage file.
-use Rattle.std.specs.Prelude.{◌≢◌, ℕ, ◌<◌, ◌≤◌, ◌==◌, ◌&&◌, not, min, Bool, nat_lt, nat_le, List, [], ◌∷◌, ◌++◌, length, take, map, codes, All, AllPairs, Option, if◌then◌else◌}
+use Rattle.std.specs.Prelude.{ℕ, ◌==◌, ◌&&◌, not, Bool, nat_lt, nat_le, List, [], ◌∷◌, ◌++◌, length, take, codes, Option, if◌then◌else◌}
 use Rattle.std.specs.List.{list_any}
-use Rattle.std.specs.Str.{bytes_eq, IsUtf8}
+use Rattle.std.specs.Str.{bytes_eq}
 use Rattle.service_model.specs.declared.limits.TheConstants.{MAX_TIME, MAX_STAGES}
 use Rattle.service_model.specs.Search.{first_of, first_below}
-use Rattle.stage_file.specs.declared.limits.TheConstants.{MAX_NAME, MAX_UNIT, MAX_FACTOR}
+use Rattle.stage_file.specs.declared.limits.TheConstants.{MAX_UNIT}
 use Rattle.stage_file.specs.declared.rules.TheConstants.{FIELD_COUNT, NAME, NUMBER, RANGE, TOO_MANY, NO_STAGES, TWICE, LIMITS, PAST_HORIZON, BOUND}
 use Rattle.stage_file.specs.declared.fault.FileFault.{FileFault}
 use Rattle.stage_file.specs.declared.fault.FileKind.TheVariants.{Stages}
-use Rattle.stage_file.specs.declared.stages.StageRow.{StageRow}
-use Rattle.stage_file.specs.declared.stages.Bound.{Bound}
-use Rattle.stage_file.specs.declared.stages.Bound.TheVariants.{Named, Normal, Sum, Pool}
 use Rattle.stage_file.specs.Rows.{is_blank}
 use Rattle.stage_file.specs.Records.{Numbered, records_of, below_header, record_at, field_in}
-use Rattle.stage_file.specs.Fields.{is_bad_name, is_no_number, is_misread, is_past, number_or, is_bad_bound, is_normal, factor_in}
+use Rattle.stage_file.specs.Fields.{is_bad_name, is_no_number, is_misread, is_past, number_or, is_bad_bound}
 use Rattle.stage_file.specs.Faults.{fails_if, text_rule, header_fault}
 
 -- a rule of the stage file at a column of a record
@@ -94,53 +91,3 @@ stage_file_fault horizon rows =
     ∷ fails_if Stages 0 NO_STAGES 0 (length records == 0)
     ∷ []
     )
-
--- what a bound's bytes mean
-unfoldable pub bound_in : List ℕ → Bound
-bound_in field =
-    if bytes_eq field (codes "sum") then Sum
-    else if bytes_eq field (codes "pool") then Pool
-    else if is_normal field then Normal (number_or 0 MAX_FACTOR (factor_in field))
-    else Named field
-
--- the stage of a record, its blanks filled; a greatest outbound time past the horizon counts as the horizon
-unfoldable pub stage_row_of : ℕ → Numbered → StageRow
-stage_row_of horizon r = record {
-  name = field_in r.fields 1;
-  lead = number_or 0 MAX_TIME (field_in r.fields 2);
-  supply = number_or 0 MAX_TIME (field_in r.fields 3);
-  least = number_or 0 MAX_TIME (field_in r.fields 4);
-  most = min horizon (number_or horizon MAX_TIME (field_in r.fields 5));
-  bound = bound_in (field_in r.fields 6);
-  unit = number_or 0 MAX_UNIT (field_in r.fields 7);
-  row = r.number;
-}
-
--- the stages of a file
-abbrev pub stage_rows_of : ℕ → List (List (List ℕ)) → List StageRow
-stage_rows_of horizon rows = map (stage_row_of horizon) (below_header (records_of rows))
-
-abbrev pub IsBoundWithin : Bound → Type 0
-IsBoundWithin (Named name) = Unit {0}
-IsBoundWithin (Normal factor) = factor ≤ MAX_FACTOR
-IsBoundWithin Sum = Unit {0}
-IsBoundWithin Pool = Unit {0}
-
--- a stage's numbers are in their ranges under a horizon
-pub record StageRowWithin (horizon : ℕ) (s : StageRow) : Type 0 where
-  pub some_name : 0 < length s.name
-  pub short_name : length s.name ≤ MAX_NAME
-  pub text : IsUtf8 s.name
-  pub lead : s.lead ≤ MAX_TIME
-  pub supply : s.supply ≤ horizon
-  pub least : s.least ≤ s.most
-  pub most : s.most ≤ horizon
-  pub bound : IsBoundWithin s.bound
-  pub unit : s.unit ≤ MAX_UNIT
-
--- stages as they are read: some, not too many, within their ranges, each with a name of its own
-pub record AreStageRows (horizon : ℕ) (stages : List StageRow) : Type 0 where
-  pub some : 0 < length stages
-  pub few : length stages ≤ MAX_STAGES
-  pub within : All (StageRowWithin horizon) stages
-  pub distinct : AllPairs (λ s t. s.name ≢ t.name) stages

@@ -35,3 +35,5 @@ pub use tables::{TableRow, read_tables};
 mod tests;
 #[cfg(test)]
 mod tests_arcs;
+#[cfg(test)]
+mod tests_numbers;

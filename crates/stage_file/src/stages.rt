@@ -48,7 +48,8 @@ pub struct StageRow {
     pub row: u32,
 }
 
-ghost use Rattle.stage_file.specs.Stages.{bound_in, stage_row_of, stage_rules, stage_fault_at, stage_file_fault, stage_rows_of, AreStageRows};
+ghost use Rattle.stage_file.specs.Stages.{stage_rules, stage_fault_at, stage_file_fault};
+ghost use Rattle.stage_file.specs.StageRecords.{bound_in, stage_row_of, stage_rows_of, AreStageRows};
 ghost use Rattle.stage_file.specs.Faults.{Reads};
 
 /// The stages of a stage file, or its first failing rule.

@@ -4,7 +4,8 @@ use Rattle.std.proofs.lemmas.Bool.{cases_lt}
 use Rattle.std.proofs.lemmas.List.{get_or_append_left, get_or_push, length_push}
 use Rattle.service_model.specs.declared.table.Table.{Table}
 use Rattle.service_model.specs.Net.{Net}
-use Rattle.service_model.specs.Tables.{table_at, no_table, AllTight}
+use Rattle.service_model.specs.Tables.{table_at, no_table}
+use Rattle.service_model.specs.LocalSums.{AllTight}
 use Rattle.service_model.specs.Nodes.{IsTightAt}
 use Rattle.tree_tables.specs.declared.wanted.Wanted.{Wanted}
 use Rattle.tree_tables.specs.Fills.{IsAsWanted, IsFill}

@@ -2,7 +2,8 @@
 use Rattle.std.specs.Prelude.{◌≡◌, ℕ, ◌+◌, ◌<◌, ◌≤◌, ◌⊎◌, List, [], ◌∷◌, ◌++◌, length}
 use Rattle.service_model.specs.declared.table.Table.{Table}
 use Rattle.service_model.specs.Net.{Net}
-use Rattle.service_model.specs.Tables.{table_at, AllTight}
+use Rattle.service_model.specs.Tables.{table_at}
+use Rattle.service_model.specs.LocalSums.{AllTight}
 use Rattle.tree_tables.specs.declared.wanted.Wanted.{Wanted}
 use Rattle.tree_tables.specs.Fills.{IsAsWanted}
 

@@ -5,7 +5,7 @@ use Rattle.std.proofs.lemmas.Bool.Decides.{nat_tests}
 use Rattle.std.proofs.lemmas.List.{drop_all}
 use Rattle.service_model.specs.declared.limits.TheConstants.{INF}
 use Rattle.service_model.specs.Plans.{entry_of}
-use Rattle.service_model.specs.Tables.{least_of}
+use Rattle.service_model.specs.LocalSums.{least_of}
 use Rattle.table_rules.specs.Sums.{entry_from}
 
 pub least_of_top : (xs : List ℕ) → least_of xs ≤ INF

@@ -10,7 +10,8 @@ use Rattle.service_model.specs.declared.table.Kind.TheVariants.{Down, Up, Root}
 use Rattle.service_model.specs.declared.table.Table.{Table}
 use Rattle.service_model.specs.Net.{Net, stage_at}
 use Rattle.service_model.specs.Plans.{charge}
-use Rattle.service_model.specs.Tables.{Covers, IsChild, Local, capped, child_least, child_transit, least_below, local_sum, table_at}
+use Rattle.service_model.specs.Tables.{IsChild, child_transit, table_at}
+use Rattle.service_model.specs.LocalSums.{Covers, Local, capped, child_least, least_below, local_sum}
 use Rattle.table_rules.specs.Sums.{AreDownSums, AreUpSums, ColumnHolds, down_part, down_sum, up_part, up_sum}
 
 -- capped sums are at most INF

@@ -1,6 +1,6 @@
 // Running leasts of a child's values, added to the sums over all children.
 ghost use Rattle.std.specs.Prelude.{◌≡◌, ◌+◌, ◌-◌, ◌<◌, ◌≤◌, ◌^◌, All, EachIndex, drop, length, slice_index, take};
-ghost use Rattle.service_model.specs.Tables.{capped, least_of};
+ghost use Rattle.service_model.specs.LocalSums.{capped, least_of};
 ghost use Rattle.table_rules.specs.Sums.{entry_from};
 
 use service_model::{INF, capped_add};

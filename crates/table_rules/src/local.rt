@@ -1,7 +1,8 @@
 // The local inequalities of a table.
 ghost use Rattle.std.specs.Prelude.{◌≡◌, ◌≤◌, ◌↔◌, All, IfOk, IsTrue, length};
 ghost use Rattle.service_model.specs.CertNumbers.{TableInRange};
-ghost use Rattle.service_model.specs.Tables.{IsShaped, Local};
+ghost use Rattle.service_model.specs.Tables.{IsShaped};
+ghost use Rattle.service_model.specs.LocalSums.{Local};
 ghost use Rattle.table_rules.specs.Shapes.{AreShaped};
 
 use crate::columns::columns_hold;

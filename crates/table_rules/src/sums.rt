@@ -1,6 +1,7 @@
 // What the children of a table cost at least, at each of its stage's times.
 ghost use Rattle.std.specs.Prelude.{◌≡◌, ◌+◌, ◌<◌, ◌≤◌, All, EachIndex, length, slice_index};
-ghost use Rattle.service_model.specs.Tables.{IsSized, capped, table_at, transit_in};
+ghost use Rattle.service_model.specs.Tables.{IsSized, table_at, transit_in};
+ghost use Rattle.service_model.specs.LocalSums.{capped};
 ghost use Rattle.table_rules.specs.Sums.{AreDownSums, AreUpSums, down_part, up_part};
 
 use crate::leasts::{add_leasts_from, add_leasts_up_to};

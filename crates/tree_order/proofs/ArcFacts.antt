@@ -6,7 +6,7 @@ use Rattle.std.proofs.lemmas.List.{get_or_default}
 use Rattle.service_model.specs.declared.stage.SupplyArc.{SupplyArc}
 use Rattle.service_model.specs.Net.{Net, arc_in, no_arc}
 use Rattle.service_model.specs.Walks.{Leads}
-use Rattle.service_model.specs.Faults.{IsNetwork}
+use Rattle.service_model.specs.Networks.{IsNetwork}
 use Rattle.service_model.specs.Forests.{Joins, AreNeighbours}
 use Rattle.tree_order.specs.Links.{JoinsStages}
 

@@ -12,6 +12,7 @@ JoinsStages stages arcs = All (λ a. (a.supplier < stages) × (a.customer < stag
 abbrev pub Touches : SupplyArc → ℕ → Type 0
 Touches a x = (a.supplier ≡ x) ⊎ (a.customer ≡ x)
 
+-- the end of the arc that is not stage x
 abbrev pub other_end : SupplyArc → ℕ → ℕ
 other_end a x = if a.supplier == x then a.customer else a.supplier
 

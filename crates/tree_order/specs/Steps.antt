@@ -41,8 +41,10 @@ IsChildAfter arcs before y x =
     (p : ℕ) × (p < length before) × (x ≡ slice_index before p) × AreNeighbours arcs x y
     × ((q : ℕ) → q < p → ¬ AreNeighbours arcs (slice_index before q) y)
 
+-- x is the parent of y, where these stages are seen before it: y itself, or the first of them that is its neighbour
 abbrev pub IsParentAfter : List SupplyArc → List ℕ → ℕ → ℕ → Type 0
 IsParentAfter arcs before y x = IsRootAfter arcs before y x ⊎ IsChildAfter arcs before y x
 
+-- each stage that is seen has its parent
 abbrev pub HasParents : List SupplyArc → List ℕ → List ℕ → Type 0
 HasParents arcs seen parent = (k : ℕ) → k < length seen → IsParentAfter arcs (take k seen) (slice_index seen k) (slice_index parent (slice_index seen k))

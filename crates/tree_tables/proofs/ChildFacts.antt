@@ -10,7 +10,8 @@ use Rattle.service_model.specs.declared.plan.Plan.{Plan}
 use Rattle.service_model.specs.declared.table.Table.{Table}
 use Rattle.service_model.specs.Net.{Net, stage_at}
 use Rattle.service_model.specs.Plans.{HasTimes, inbound_at, outbound_at, stage_cost, charge}
-use Rattle.service_model.specs.Tables.{table_at, place_of, least_below}
+use Rattle.service_model.specs.Tables.{table_at, place_of}
+use Rattle.service_model.specs.LocalSums.{least_below}
 use Rattle.service_model.specs.Nodes.{below, Holds, AreTightBelow}
 use Rattle.gsm_laws.specs.Traces.{IsAbsent, SameAt, SameOutside, cost_at, IsTraceOf}
 use Rattle.gsm_laws.proofs.ElementFacts.{each, all_append, all_both}

@@ -8,7 +8,8 @@ use Rattle.std.proofs.lemmas.List.Elements.{recursion_from_All, All-from_recursi
 use Rattle.service_model.specs.declared.table.Table.{Table}
 use Rattle.service_model.specs.Net.{Net, stage_at}
 use Rattle.service_model.specs.Plans.{charge}
-use Rattle.service_model.specs.Tables.{table_at, no_table, capped, least_below, local_sum, IsChild, IsShaped, Tight}
+use Rattle.service_model.specs.Tables.{table_at, no_table, IsChild, IsShaped}
+use Rattle.service_model.specs.LocalSums.{capped, least_below, local_sum, Tight}
 use Rattle.service_model.specs.Nodes.{below, below_within, IsTightAt, AreTightBelow}
 use Rattle.gsm_laws.proofs.ElementFacts.{each, each_two, all_append, all_concat, flat_map_same}
 use Rattle.gsm_laws.proofs.BelowFacts.{HasEarlier, earlier_from_sound, sound_from_tight, below_enough}

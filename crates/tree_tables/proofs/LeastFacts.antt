@@ -7,7 +7,7 @@ use Rattle.std.proofs.lemmas.List.{get_or_past, get_or-reverse}
 use Rattle.std.proofs.lemmas.Grind.{get_or_default_zero}
 use Rattle.service_model.specs.declared.limits.TheConstants.{INF}
 use Rattle.service_model.specs.Plans.{charge, entry_of}
-use Rattle.service_model.specs.Tables.{capped}
+use Rattle.service_model.specs.LocalSums.{capped}
 use Rattle.service_model.proofs.CostFacts.{charge_covered}
 use Rattle.tree_tables.specs.Leasts.{IsLeast, IsLeastPair}
 use Rattle.tree_tables.specs.Sums.{Parts, local_at}

@@ -4,7 +4,7 @@ use Rattle.std.proofs.lemmas.Bool.{cases_eq}
 use Rattle.std.proofs.lemmas.List.{get_or_push, get_or_append_left}
 use Rattle.std.proofs.lemmas.List.{take_all, drop_all}
 use Rattle.service_model.specs.declared.limits.TheConstants.{INF}
-use Rattle.service_model.specs.Tables.{least_of}
+use Rattle.service_model.specs.LocalSums.{least_of}
 
 pub least_of_top : (xs : List ℕ) → least_of xs ≤ INF
 least_of_top [] = omega arith

@@ -8,7 +8,8 @@ use Rattle.service_model.specs.declared.table.Kind.TheVariants.{Down, Up, Root}
 use Rattle.service_model.specs.declared.table.Table.{Table}
 use Rattle.service_model.specs.Net.{Net}
 use Rattle.service_model.specs.Plans.{inbound_at, outbound_at}
-use Rattle.service_model.specs.Tables.{least_of, transit_in, child_transit, child_least, least_below, place}
+use Rattle.service_model.specs.Tables.{transit_in, child_transit, place}
+use Rattle.service_model.specs.LocalSums.{least_of, child_least, least_below}
 use Rattle.service_model.specs.Nodes.{Holds, MeetsChild}
 use Rattle.gsm_laws.proofs.TracedFacts.{least_of_le}
 use Rattle.gsm_laws.proofs.TraceFacts.{least_reached}

@@ -10,7 +10,8 @@ use Rattle.service_model.specs.declared.table.Kind.TheVariants.{Down, Up, Root}
 use Rattle.service_model.specs.declared.table.Table.{Table}
 use Rattle.service_model.specs.Net.{Net, stage_at}
 use Rattle.service_model.specs.Plans.{charge}
-use Rattle.service_model.specs.Tables.{table_at, child_transit, child_least, least_below, local_sum, place, Covers, Tight, IsChild, width}
+use Rattle.service_model.specs.Tables.{table_at, child_transit, place, IsChild, width}
+use Rattle.service_model.specs.LocalSums.{child_least, least_below, local_sum, Covers, Tight}
 use Rattle.tree_tables.specs.declared.wanted.Wanted.{Wanted}
 use Rattle.tree_tables.specs.Fills.{IsWanted, IsFill, table_of}
 use Rattle.tree_tables.specs.Sums.{down_part, up_part, down_sum, up_sum, AreDownSums, AreUpSums, Parts, local_at, AreLeast}

@@ -6,7 +6,8 @@ use Rattle.service_model.specs.declared.table.Kind.{Kind}
 use Rattle.service_model.specs.declared.table.Kind.TheVariants.{Down, Up, Root}
 use Rattle.service_model.specs.declared.table.Table.{Table}
 use Rattle.service_model.specs.Net.{Net}
-use Rattle.service_model.specs.Tables.{width, place, place_of, local_sum, Covers}
+use Rattle.service_model.specs.Tables.{width, place, place_of}
+use Rattle.service_model.specs.LocalSums.{local_sum, Covers}
 use Rattle.tree_tables.specs.declared.times.Window.{Window}
 use Rattle.tree_tables.specs.Fills.{IsFill}
 use Rattle.tree_tables.specs.Leasts.{IsLeast}

@@ -9,7 +9,8 @@ use Rattle.service_model.specs.declared.limits.TheConstants.{INF}
 use Rattle.service_model.specs.declared.plan.Plan.{Plan}
 use Rattle.service_model.specs.declared.table.Table.{Table}
 use Rattle.service_model.specs.Net.{Net}
-use Rattle.service_model.specs.Tables.{table_at, least_below}
+use Rattle.service_model.specs.Tables.{table_at}
+use Rattle.service_model.specs.LocalSums.{least_below}
 use Rattle.service_model.specs.Nodes.{below, AreTightBelow, IsOnce}
 use Rattle.gsm_laws.specs.Traces.{IsAbsent, IsTraceOf}
 use Rattle.gsm_laws.proofs.ElementFacts.{all_append}

@@ -2,7 +2,8 @@
 use Rattle.std.specs.Prelude.{◌≡◌, ℕ, ◌+◌, ◌<◌, ◌≤◌, List, length, All}
 use Rattle.service_model.specs.declared.table.Table.{Table}
 use Rattle.service_model.specs.Net.{Net}
-use Rattle.service_model.specs.Tables.{table_at, IsChild, IsSized, Tight}
+use Rattle.service_model.specs.Tables.{table_at, IsChild, IsSized}
+use Rattle.service_model.specs.LocalSums.{Tight}
 use Rattle.tree_tables.specs.declared.wanted.Wanted.{Wanted}
 
 -- these are numbers of tables that are of the network and may be children of a table of the stage

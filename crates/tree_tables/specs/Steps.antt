@@ -8,7 +8,8 @@ use Rattle.service_model.specs.declared.table.Kind.TheVariants.{Down, Up, Root}
 use Rattle.service_model.specs.declared.table.Table.{Table}
 use Rattle.service_model.specs.Net.{Net}
 use Rattle.service_model.specs.Plans.{HasTimes}
-use Rattle.service_model.specs.Tables.{table_at, transit_in, place_of, least_below, local_sum, Covers}
+use Rattle.service_model.specs.Tables.{table_at, transit_in, place_of}
+use Rattle.service_model.specs.LocalSums.{least_below, local_sum, Covers}
 use Rattle.service_model.specs.Nodes.{below, AreTightBelow, IsOnce}
 use Rattle.tree_tables.specs.declared.times.Window.{Window}
 

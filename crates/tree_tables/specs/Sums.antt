@@ -6,7 +6,8 @@ use Rattle.service_model.specs.declared.table.Kind.{Kind}
 use Rattle.service_model.specs.declared.table.Kind.TheVariants.{Down, Up, Root}
 use Rattle.service_model.specs.declared.table.Table.{Table}
 use Rattle.service_model.specs.Plans.{charge}
-use Rattle.service_model.specs.Tables.{table_at, transit_in, capped, least_of}
+use Rattle.service_model.specs.Tables.{table_at, transit_in}
+use Rattle.service_model.specs.LocalSums.{capped, least_of}
 use Rattle.tree_tables.specs.Leasts.{IsLeast, IsLeastPair}
 
 -- what a child costs at least at an inbound time of its parent, of stage j, if that hangs on it
@@ -21,10 +22,12 @@ up_part Down arcs c j outbound = 0
 up_part Up arcs c j outbound = least_of (drop (outbound + transit_in arcs j c.stage - c.floor) c.values)
 up_part Root arcs c j outbound = 0
 
+-- what the children cost at least at an inbound time of their parent, stage j, as far as it hangs on that
 abbrev pub down_sum : List SupplyArc → List Table → ℕ → List ℕ → ℕ → ℕ
 down_sum arcs tables j children inbound =
     sum_by (λ c. down_part (table_at tables c).kind arcs (table_at tables c) j inbound) children
 
+-- what the children cost at least at an outbound time of their parent, stage j, as far as it hangs on that
 abbrev pub up_sum : List SupplyArc → List Table → ℕ → List ℕ → ℕ → ℕ
 up_sum arcs tables j children outbound =
     sum_by (λ c. up_part (table_at tables c).kind arcs (table_at tables c) j outbound) children

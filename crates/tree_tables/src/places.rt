@@ -1,6 +1,6 @@
 // The place of a child's least value that its parent's times allow.
 ghost use Rattle.std.specs.Prelude.{◌≡◌, ◌<◌, ◌≤◌, ℕ, length, slice_index};
-ghost use Rattle.service_model.specs.Tables.{least_below};
+ghost use Rattle.service_model.specs.LocalSums.{least_below};
 ghost use Rattle.tree_tables.specs.Steps.{IsChildPlace};
 
 use crate::sums::transit_between;

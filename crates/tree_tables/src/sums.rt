@@ -1,6 +1,7 @@
 // What the children of a table cost at least, at each of its stage's times.
 ghost use Rattle.std.specs.Prelude.{◌≡◌, ◌+◌, ◌-◌, ◌<◌, ◌≤◌, ◌^◌, All, EachIndex, drop, length, slice_index, take};
-ghost use Rattle.service_model.specs.Tables.{IsSized, capped, least_of, transit_in};
+ghost use Rattle.service_model.specs.Tables.{IsSized, transit_in};
+ghost use Rattle.service_model.specs.LocalSums.{capped, least_of};
 ghost use Rattle.tree_tables.specs.Fills.{AreChildren};
 ghost use Rattle.tree_tables.specs.Sums.{AreDownSums, AreUpSums, down_part, up_part};
 

@@ -4,7 +4,8 @@ use Rattle.std.proofs.lemmas.Bool.{cases_lt}
 use Rattle.std.proofs.lemmas.List.{get_or_past}
 use Rattle.service_model.specs.declared.table.Table.{Table}
 use Rattle.service_model.specs.Net.{Net}
-use Rattle.service_model.specs.Tables.{place_of, Local}
+use Rattle.service_model.specs.Tables.{place_of}
+use Rattle.service_model.specs.LocalSums.{Local}
 use Rattle.node_rules.proofs.tests.are_sound.Goals as goal
 
 free_local : (n : Net) (tables : List Table) (t : Table) → All (λ x. x ≡ 0) t.values → Local n tables t

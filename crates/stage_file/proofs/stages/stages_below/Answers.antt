@@ -4,7 +4,8 @@ use Rattle.std.proofs.lemmas.Result.{err_from_is_err_and}
 use Rattle.service_model.specs.Search.{first_of}
 use Rattle.stage_file.specs.Names.{name_in}
 use Rattle.stage_file.specs.Seen.{seen_as, all_seen}
-use Rattle.stage_file.specs.Stages.{stage_fault_at, stage_row_of, stage_rules}
+use Rattle.stage_file.specs.Stages.{stage_fault_at, stage_rules}
+use Rattle.stage_file.specs.StageRecords.{stage_row_of}
 use Rattle.stage_file.proofs.FaultFacts.{stops_below, first_below_step}
 use Rattle.stage_file.proofs.RecordFacts.{seen_more}
 use Rattle.stage_file.proofs.StageFacts.{stage_here}

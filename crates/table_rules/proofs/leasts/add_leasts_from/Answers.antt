@@ -1,7 +1,7 @@
 -- One time fewer.
 use Rattle.std.proofs.Common.{◌≡◌, ◌+◌, ◌-◌, drop, arith}
 use Rattle.std.proofs.lemmas.Grind.{common_steps}
-use Rattle.service_model.specs.Tables.{least_of}
+use Rattle.service_model.specs.LocalSums.{least_of}
 use Rattle.table_rules.proofs.LeastFacts.{least_dropped}
 use Rattle.table_rules.proofs.leasts.add_leasts_from.Goals as goal
 

@@ -1,6 +1,6 @@
 -- The least so far, the sums that are done, and those ahead, from the last time down.
 use Rattle.std.proofs.Common.{ℕ, ◌≡◌, ◌+◌, ◌-◌, ◌<◌, ◌≤◌, length, get_or, drop}
-use Rattle.service_model.specs.Tables.{capped, least_of}
+use Rattle.service_model.specs.LocalSums.{capped, least_of}
 use Rattle.table_rules.proofs.leasts.add_leasts_from.Given as goal
 
 abbrev pub invariant-times : goal.invariant-times

@@ -1,7 +1,7 @@
 -- One time more.
 use Rattle.std.proofs.Common.{◌≡◌, ◌+◌, ◌-◌, take, arith}
 use Rattle.std.proofs.lemmas.Grind.{common_steps}
-use Rattle.service_model.specs.Tables.{least_of}
+use Rattle.service_model.specs.LocalSums.{least_of}
 use Rattle.table_rules.proofs.LeastFacts.{least_taken}
 use Rattle.table_rules.proofs.leasts.add_leasts_up_to.Goals as goal
 

@@ -1,6 +1,6 @@
 -- The least so far, the entries that are done, and those ahead, from the last entry down.
 use Rattle.std.proofs.Common.{ℕ, ◌≡◌, ◌+◌, ◌-◌, ◌<◌, ◌≤◌, length, get_or, drop}
-use Rattle.service_model.specs.Tables.{capped, least_of}
+use Rattle.service_model.specs.LocalSums.{capped, least_of}
 use Rattle.tree_tables.proofs.sums.add_rest_leasts.Given as goal
 
 abbrev pub invariant-times : goal.invariant-times
