@@ -121,7 +121,7 @@ fn stage_of(
 }
 
 // The stage of a record, its blanks filled.
-#[tactic(auto, unfolding(crate::specs::Stages::stage_row_of))]
+#[tactic(auto, unfolding(crate::specs::StageRecords::stage_row_of))]
 fn stage_row(alloc: Global, record: &Record<'_>, horizon: u16) -> Result<StageRow, NoMemory>
     requires { horizon ≤ MAX_HORIZON }
     ensures { IfOk result (λ stage. stage ≡ stage_row_of horizon (seen_as «record».now)) }
@@ -141,7 +141,7 @@ fn stage_row(alloc: Global, record: &Record<'_>, horizon: u16) -> Result<StageRo
 }
 
 // What a bound's bytes mean.
-#[tactic(auto, unfolding(crate::specs::Stages::bound_in))]
+#[tactic(auto, unfolding(crate::specs::StageRecords::bound_in))]
 fn bound_of(alloc: Global, field: &[u8]) -> Result<Bound, NoMemory>
     ensures { IfOk result (λ bound. bound ≡ bound_in field.now) }
 {
