@@ -1,5 +1,6 @@
 // The real files and the real output: the trusted edge.
-ghost use Rattle.std.specs.Prelude.{◌≡◌, ◌<◌, ◌≤◌, None, length, IfOk, IsOkUnless};
+ghost use Rattle.std.specs.Prelude.{◌≡◌, ◌<◌, ◌≤◌, None, length, IfOk, OnOk, IsOkUnless};
+ghost use Rattle.std.specs.Io.KnownBytes.{Appends};
 ghost use Rattle.gsm_outside.specs.Causes.{count_after};
 
 use crate::fault::count_fault;
@@ -91,7 +92,9 @@ fn write_behind<R: Files>(rt: &R, name: &str, piece: &[u8]) -> io::Result<()> {
 }
 
 // std's `write_all` goes on after an interrupted write, and this ends at the first error.
-fn write_whole<W: Write>(writer: &mut W, piece: &[u8]) -> io::Result<()> {
+fn write_whole<W: Write>(writer: &mut W, piece: &[u8]) -> io::Result<()>
+    ensures ok { OnOk result (Appends (W.contents writer.old) (W.contents writer.new) piece.now) }
+{
     let mut rest = piece;
     'turns: while !rest.is_empty() {
         let count = writer.write(rest)?;

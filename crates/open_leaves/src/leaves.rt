@@ -1,5 +1,5 @@
 // The leaves in the order in which they are split.
-ghost use Rattle.std.specs.Prelude.{◌≡◌, ◌⊎◌, ◌↔◌, All, Contains, [], OnOk, IfSome, IfNone};
+ghost use Rattle.std.specs.Prelude.{◌≡◌, ◌⊎◌, ◌↔◌, All, Contains, [], OnOk, OnErr, IfSome, IfNone};
 ghost use Rattle.open_leaves.specs.Leaves.{IsBefore, IsWithout};
 
 use crate::Leaf;
@@ -37,7 +37,8 @@ impl Leaves {
 
     /// Puts a leaf in.
     pub fn insert(&mut self, leaf: Leaf) -> Result<(), NoMemory>
-        ensures { OnOk result ((q : Leaf) → Contains self.new q ↔ (Contains self.old q ⊎ (q ≡ leaf))) }
+        ensures ok { OnOk result ((q : Leaf) → Contains self.new q ↔ (Contains self.old q ⊎ (q ≡ leaf))) }
+        ensures err { OnErr result (self.new ≡ self.old) }
     {
         self.leaves.insert(leaf)?;
         Ok(())

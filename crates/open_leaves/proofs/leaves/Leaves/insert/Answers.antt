@@ -12,8 +12,8 @@ equal_from Less h = cc
 equal_from Equal h = cc
 equal_from Greater h = cc
 
-pub returns : goal.returns
-returns c = λ q.
+pub returns-clause-ok : goal.returns-clause-ok
+returns-clause-ok c = λ q.
     let after = btree_set_contains_iff leaf_total leaf_exact c.insert.new.self q in
     let itself = btree_set_contains_iff leaf_total leaf_exact c.insert.new.self c.args.leaf in
     let before = btree_set_contains_iff leaf_total leaf_exact c.self.inside.leaves q in
