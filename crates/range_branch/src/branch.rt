@@ -1,5 +1,5 @@
 // The search over ranges.
-ghost use Rattle.std.specs.Prelude.{◌≡◌, ◌≢◌, ◌+◌, ◌*◌, ◌<◌, ◌≤◌, ◌^◌, [], IfOk, OnOk, OnErr, length};
+ghost use Rattle.std.specs.Prelude.{◌≡◌, ◌≢◌, ◌+◌, ◌-◌, ◌*◌, ◌<◌, ◌≤◌, ◌^◌, [], IfOk, OnOk, OnErr, length};
 ghost use Rattle.service_model.specs.Orders.{IsTopological};
 ghost use Rattle.service_model.specs.declared.cert.Outcome.TheVariants.{Spent};
 ghost use Rattle.service_model.specs.Verdicts.{IsTrueOf};
@@ -32,7 +32,7 @@ fn searched<L>(
 ) -> Result<Cert, NoMemory>
     requires given { IsGiven given.now }
     requires pool { pool.old ≡ [] }
-    requires room { steps.old ≤ 2 ^ 62 }
+    requires room { steps.old ≤ 2 ^ 63 - 40000000 }
     ensures cert { IfOk result (IsSearched given.now.network.now given.now.forest.now given.now.budget pool.new) }
     ensures steps { OnOk result (steps.new ≡ steps.old + length pool.new) }
     ensures later { steps.old ≤ steps.new }
@@ -77,7 +77,7 @@ pub fn search<L>(
     requires order { IsTopological (length network.now.stages) network.now.arcs order.now }
     requires some_budget { 1 ≤ budget }
     requires budget { budget ≤ MAX_BUDGET }
-    requires room { steps.old ≤ 2 ^ 62 }
+    requires room { steps.old ≤ 2 ^ 63 - 40000000 }
     ensures own { IfOk result (IsOwn network.now forest.now budget) }
     ensures true_verdict { IfOk result (λ c. IsTrueOf network.now c.verdict) }
     ensures short { IfOk result (IsShortCert network.now) }

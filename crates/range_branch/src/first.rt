@@ -1,5 +1,5 @@
 // The first node of a search.
-ghost use Rattle.std.specs.Prelude.{◌≡◌, ◌+◌, ◌≤◌, ◌^◌, IfOk, OnOk, [], length};
+ghost use Rattle.std.specs.Prelude.{◌≡◌, ◌+◌, ◌-◌, ◌≤◌, ◌^◌, IfOk, OnOk, [], length};
 ghost use Rattle.range_branch.specs.Progress.{IsGiven, IsProgress};
 ghost use Rattle.range_branch.specs.First.{HasOneLeaf, IsFirst};
 
@@ -53,7 +53,7 @@ pub fn first_progress<L>(
 ) -> Result<Progress, NoMemory>
     requires given { IsGiven given.now }
     requires pool { pool.old ≡ [] }
-    requires room { steps.old ≤ 2 ^ 62 }
+    requires room { steps.old ≤ 2 ^ 63 - 40000000 }
     ensures progress { IfOk result (IsProgress given.now.network.now given.now.forest.now given.now.budget pool.new) }
     ensures steps { OnOk result (steps.new ≡ steps.old + length pool.new) }
     ensures later { steps.old ≤ steps.new }

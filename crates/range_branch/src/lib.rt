@@ -12,3 +12,5 @@ pub use branch::search;
 
 #[cfg(test)]
 mod tests;
+#[cfg(test)]
+mod tests_small;

@@ -1,5 +1,5 @@
 // A leaf gives way to the two halves of its range.
-ghost use Rattle.std.specs.Prelude.{◌≡◌, ◌+◌, ◌*◌, ◌<◌, ◌≤◌, ◌^◌, IfOk, IfSome, OnOk, None, length};
+ghost use Rattle.std.specs.Prelude.{◌≡◌, ◌+◌, ◌-◌, ◌*◌, ◌<◌, ◌≤◌, ◌^◌, IfOk, IfSome, OnOk, None, length};
 ghost use Rattle.service_model.specs.Plans.{Feasible};
 ghost use Rattle.service_model.specs.Orders.{IsTopological};
 ghost use Rattle.service_model.specs.Repairs.{IsRepairable};
@@ -113,7 +113,7 @@ pub fn split_leaf<L>(
     requires progress { IsProgress given.now.network.now given.now.forest.now given.now.budget pool.old progress }
     requires least { IsLeastOf progress.leaves leaf }
     requires unended { IsEndingOf given.now.network.now progress.found leaf.bound (length progress.nodes) given.now.budget None }
-    requires room { steps.old ≤ 2 ^ 62 + length pool.old }
+    requires room { steps.old ≤ 2 ^ 63 - 40000000 + length pool.old }
     ensures progress { IfOk result (λ next. IsProgress given.now.network.now given.now.forest.now given.now.budget pool.new next
         × (length next.nodes ≡ length progress.nodes + 2)) }
     ensures steps { OnOk result (steps.new + length pool.old ≡ steps.old + length pool.new) }

@@ -16,7 +16,7 @@ use tree_order::forest_of;
 struct Fills;
 
 // The lead time of a stage, the greatest outbound time and the costs.
-type Row<'a> = (u16, u16, &'a [u64]);
+pub(crate) type Row<'a> = (u16, u16, &'a [u64]);
 
 fn stage(alloc: Global, row: &Row) -> Result<Stage, NoMemory> {
     let (lead, most, cost) = row;
@@ -37,7 +37,7 @@ fn stages(alloc: Global, rows: &[Row]) -> Result<List<Stage>, NoMemory> {
     Ok(stages)
 }
 
-fn arc(supplier: u32, customer: u32) -> SupplyArc {
+pub(crate) fn arc(supplier: u32, customer: u32) -> SupplyArc {
     SupplyArc {
         supplier,
         customer,
@@ -45,7 +45,7 @@ fn arc(supplier: u32, customer: u32) -> SupplyArc {
     }
 }
 
-fn network(
+pub(crate) fn network(
     alloc: Global,
     horizon: u16,
     rows: &[Row],
@@ -61,13 +61,13 @@ fn network(
 
 // A certificate, with the numbers of tables that the pool holds and of steps that were counted.
 #[derive(Drop)]
-struct Made {
-    cert: Cert,
+pub(crate) struct Made {
+    pub(crate) cert: Cert,
     held: usize,
     filled: u64,
 }
 
-fn searched(
+pub(crate) fn searched(
     alloc: Global,
     network: Result<Network, NewFault>,
     budget: u32,
