@@ -9,19 +9,20 @@ use Rattle.service_model.specs.declared.cert.Outcome.TheVariants as outcome
 use Rattle.tree_order.specs.declared.forest.Forest.{Forest}
 use Rattle.network_check.specs.declared.checked.Checked.{Checked}
 use Rattle.planner_top.specs.declared.filled.TheConstants.{MOST_FILLED}
-use Rattle.planner_top.specs.declared.command.Command.{Command}
-use Rattle.planner_top.specs.declared.command.Command.TheVariants as command
-use Rattle.planner_top.specs.declared.word_fault.WordFault.{WordFault}
+use Rattle.command_words.specs.declared.command.Command.{Command}
+use Rattle.command_words.specs.declared.command.Command.TheVariants as command
+use Rattle.command_words.specs.declared.word_fault.WordFault.{WordFault}
 use Rattle.planner_top.specs.declared.task.Task.{Task}
 use Rattle.planner_top.specs.declared.task.Task.TheVariants as task
 use Rattle.planner_top.specs.declared.stop.Stop.{Stop}
 use Rattle.planner_top.specs.declared.stop.Stop.TheVariants as stop
 use Rattle.planner_top.specs.declared.answer.Ending.{Ending}
 use Rattle.planner_top.specs.declared.answer.Ending.TheVariants as ending
-use Rattle.planner_top.specs.Asked.{Asked, asked_of}
-use Rattle.planner_top.specs.Texts.{stop_row}
+use Rattle.command_words.specs.Asked.{Asked, asked_of}
+use Rattle.planner_top.specs.Stops.{stop_row}
 use Rattle.planner_top.specs.Problems.{IsTaskOf, TellsWords}
-use Rattle.planner_top.specs.Answers.{IsProblem, IsRefusal, IsSolution, IsDone, MayEnd, ending_by, ending_of, IsAnswer}
+use Rattle.planner_top.specs.Answers.{IsProblem, IsRefusal, MayEnd, ending_of, IsAnswer}
+use Rattle.planner_top.specs.Done.{IsSolution, IsDone, ending_by}
 
 -- how a network's solution may end
 abbrev is_solved : Ending → Bool

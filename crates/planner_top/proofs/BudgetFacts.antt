@@ -12,7 +12,7 @@ use Rattle.stage_file.specs.Faults.{fault_of}
 use Rattle.network_check.specs.declared.budget.TheConstants.{DEFAULT_BUDGET, MOST_VALUES}
 use Rattle.network_check.specs.Budgets.{range_values, keeps_budget, IsDefaultBudget, IsBudgetOf}
 use Rattle.planner_top.specs.declared.filled.TheConstants.{MOST_FILLED}
-use Rattle.planner_top.specs.Requests.{IsRanges}
+use Rattle.command_words.specs.Requests.{IsRanges}
 use Rattle.planner_top.specs.Tasks.{budget_fault, IsBudget}
 
 -- the default budget is not below another

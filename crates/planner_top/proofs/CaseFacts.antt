@@ -16,16 +16,18 @@ use Rattle.stage_file.specs.Raw.{raw_fault, raw_of}
 use Rattle.network_check.specs.declared.checked.Checked.{Checked}
 use Rattle.network_check.specs.Checked.{IsNetworkOf, IsChecked}
 use Rattle.network_check.specs.Refusals.{IsFirstTogether, RecordsCase}
-use Rattle.planner_top.specs.declared.command.Command.{Command}
-use Rattle.planner_top.specs.declared.command.Command.TheVariants as command
-use Rattle.planner_top.specs.declared.contents.Contents.{Contents}
-use Rattle.planner_top.specs.declared.files.TheConstants.{CERT_LIMIT}
+use Rattle.command_words.specs.declared.command.Command.{Command}
+use Rattle.command_words.specs.declared.command.Command.TheVariants as command
+use Rattle.request_files.specs.declared.contents.Contents.{Contents}
+use Rattle.request_files.specs.declared.files.TheConstants.{CERT_LIMIT}
 use Rattle.planner_top.specs.declared.task.Task.{Task}
 use Rattle.planner_top.specs.declared.task.Task.TheVariants as task
 use Rattle.planner_top.specs.declared.stop.Stop.TheVariants as stop
 use Rattle.planner_top.specs.declared.stop.Unsolved.{Unsolved}
 use Rattle.planner_top.specs.declared.stop.Unsolved.TheVariants as unsolved
-use Rattle.planner_top.specs.Tasks.{files_in, raw_in, IsLastFault, TaskCase, TogetherCase, LastCase, unsolved_by}
+use Rattle.planner_top.specs.Tasks.{files_in, raw_in, IsLastFault}
+use Rattle.planner_top.specs.TaskCases.{TaskCase, TogetherCase, LastCase}
+use Rattle.planner_top.specs.Stops.{unsolved_by}
 use Rattle.planner_top.proofs.TaskFacts.{plan_has_times}
 
 -- a rule on one file fails

@@ -15,15 +15,16 @@ use Rattle.service_model.specs.declared.cert.Verdict.{Verdict}
 use Rattle.tree_order.specs.declared.forest.Forest.{Forest}
 use Rattle.cert_check.specs.Bytes.{IsAcceptedBytes, IsRefusedBytes}
 use Rattle.network_check.specs.declared.checked.Checked.{Checked}
-use Rattle.planner_top.specs.declared.word_fault.WordFault.{WordFault}
+use Rattle.command_words.specs.declared.word_fault.WordFault.{WordFault}
 use Rattle.planner_top.specs.declared.task.Task.{Task}
 use Rattle.planner_top.specs.declared.task.Task.TheVariants as task
-use Rattle.planner_top.specs.declared.stop.FileWord.{FileWord}
+use Rattle.command_words.specs.declared.file_word.FileWord.{FileWord}
 use Rattle.planner_top.specs.declared.stop.Stop.{Stop}
 use Rattle.planner_top.specs.declared.stop.Stop.TheVariants as stop
 use Rattle.planner_top.specs.declared.answer.Ending.{Ending}
 use Rattle.planner_top.specs.declared.answer.Ending.TheVariants as ending
-use Rattle.planner_top.specs.Answers.{IsProblem, IsSolution, IsAudit, IsCheck, IsDone, IsRefusal, ending_by, ending_of, IsAnswer}
+use Rattle.planner_top.specs.Answers.{IsProblem, IsRefusal, ending_of, IsAnswer}
+use Rattle.planner_top.specs.Done.{IsSolution, IsAudit, IsCheck, IsDone, ending_by}
 use Rattle.planner_top.specs.Headline.{CanBeDone, IsSpent, DropsArc, EndsOrSpent, Exactly}
 use Rattle.cert_check.proofs.RefusalFacts.{not_both_law}
 use Rattle.planner_top.proofs.TaskFacts.{one_problem}

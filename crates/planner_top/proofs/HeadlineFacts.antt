@@ -1,8 +1,11 @@
 -- The promise of the top call follows from what each status says.
 use Rattle.std.proofs.Common.{◌≡◌, Option, Some, None, refl, sym, ◌∙◌, subst, arith, inl, inr}
-use Rattle.planner_top.specs.Asked.{cert_name}
+use Rattle.command_words.specs.Asked.{cert_name}
 use Rattle.planner_top.specs.Certificates.{KeepsOthers}
-use Rattle.planner_top.specs.Runs.{Run, IsLater, Answered, status_of, StatusCase, FailedWrite}
+use Rattle.planner_top.specs.Runs.{Run, IsLater}
+use Rattle.planner_top.specs.Endings.{Answered, status_of}
+use Rattle.planner_top.specs.StatusCases.{StatusCase}
+use Rattle.planner_top.specs.Faults.{FailedWrite}
 use Rattle.planner_top.specs.Headline.{Exactly, IsSure, Headline}
 use Rattle.planner_top.specs.declared.answer.Ending.{Ending}
 use Rattle.planner_top.specs.declared.answer.Ending.TheVariants as ending

@@ -7,12 +7,12 @@ use Rattle.tree_order.specs.Forest.{IsForest, IsOnlyForest}
 use Rattle.network_check.specs.Budgets.{IsBudgetOf}
 use Rattle.network_check.specs.declared.checked.Checked.{Checked}
 use Rattle.network_check.specs.Checked.{IsNetworkOf, IsChecked}
-use Rattle.planner_top.specs.declared.command.Command.TheVariants as command
+use Rattle.command_words.specs.declared.command.Command.TheVariants as command
 use Rattle.planner_top.specs.declared.task.Task.TheVariants as task
 use Rattle.planner_top.specs.declared.stop.Stop.TheVariants as stop
 use Rattle.planner_top.specs.declared.stop.Unsolved.TheVariants as unsolved
-use Rattle.planner_top.specs.Requests.{IsRanges}
-use Rattle.planner_top.specs.Tasks.{LastCase}
+use Rattle.command_words.specs.Requests.{IsRanges}
+use Rattle.planner_top.specs.TaskCases.{LastCase}
 use Rattle.planner_top.proofs.BudgetFacts.{budget_may, budget_holds, budget_fails}
 use Rattle.planner_top.proofs.TaskFacts.{stages_are, forest_in}
 

@@ -1,7 +1,7 @@
 pub mod AnswerFacts
-pub mod BreakFacts
 pub mod BudgetFacts
 pub mod CaseFacts
+pub mod DoneFacts
 pub mod ExactFacts
 pub mod FullFacts
 pub mod HeadlineFacts
@@ -11,8 +11,4 @@ pub mod SolveFacts
 pub mod StatusFacts
 pub mod WrittenFacts
 pub mod ProblemFacts
-pub mod ReadFacts
-pub mod ReportFacts
 pub mod TaskFacts
-pub mod UnreadFacts
-pub mod WordFacts

@@ -1,13 +1,19 @@
 -- What is known of what a request asks, once its files are read.
-use Rattle.std.proofs.Common.{◌≡◌, ℕ, Option, Some, None, Result, Ok, Err, subst, arith}
+use Rattle.std.proofs.Common.{◌≡◌, ℕ, Option, Some, None, Result, Ok, Err, refl, subst, arith}
 use Rattle.std.specs.Option.{IfSome}
 use Rattle.gsm_outside.specs.Held.{Held}
-use Rattle.planner_top.specs.Asked.{Asked}
-use Rattle.planner_top.specs.Contents.{too_long_of, contents_of}
-use Rattle.planner_top.specs.Tasks.{raw_in, IsTask, TaskCase}
+use Rattle.command_words.specs.Asked.{Asked}
+use Rattle.request_files.specs.Lengths.{too_long_of}
+use Rattle.request_files.specs.Contents.{contents_of, FilesCase}
+use Rattle.planner_top.specs.Tasks.{raw_in, IsTask}
+use Rattle.planner_top.specs.TaskCases.{TaskCase}
 use Rattle.planner_top.specs.Answers.{IsAskedProblem}
+use Rattle.planner_top.specs.Stops.{unsolved_as}
 use Rattle.planner_top.specs.Problems.{AskedCase}
-use Rattle.planner_top.specs.declared.contents.Contents.{Contents}
+use Rattle.request_files.specs.declared.contents.Contents.{Contents}
+use Rattle.command_words.specs.declared.file_word.FileWord.{FileWord}
+use Rattle.request_files.specs.declared.unread.Unread.{Unread}
+use Rattle.request_files.specs.declared.unread.Unread.TheVariants as unread
 use Rattle.planner_top.specs.declared.task.Task.{Task}
 use Rattle.planner_top.specs.declared.stop.Stop.{Stop}
 use Rattle.planner_top.specs.declared.stop.Stop.TheVariants as stop
@@ -34,3 +40,13 @@ asked_case q held before now contents (Err (unsolved.Stop (stop.Words fault))) s
 asked_case q held before now contents (Err (unsolved.Stop (stop.TooLong word))) same read case = absurd case
 asked_case q held before now contents (Err (unsolved.Fault word)) same read case = absurd case
 asked_case q held before now contents (Err unsolved.NoMemory) same read case = omega arith
+
+told_long : (q : Asked) (held : Option Held) (word : FileWord) → IfSome held (λ m. too_long_of q m ≡ Some word) → IfSome held (λ m. IsAskedProblem q m (Err (stop.TooLong word)))
+told_long q None word long = tt
+told_long q (Some m) word long = rw long refl
+
+-- the files of a request were not read
+pub asked_unread : (q : Asked) (held : Option Held) (before now : ℕ) (u : Unread) → FilesCase q held before now (Err u) → AskedCase q held before now (Err (unsolved_as u))
+asked_unread q held before now (unread.TooLong word) case = (case.0, told_long q held word case.1)
+asked_unread q held before now (unread.Fault word) case = case
+asked_unread q held before now unread.NoMemory case = case

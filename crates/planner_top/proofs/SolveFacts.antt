@@ -15,9 +15,11 @@ use Rattle.search_laws.specs.Enough.{enough_of}
 use Rattle.range_branch.specs.Solutions.{Solves}
 use Rattle.network_check.specs.declared.checked.Checked.{Checked}
 use Rattle.cert_check.specs.Bytes.{IsAcceptedBytes}
-use Rattle.planner_top.specs.Texts.{solution_rows}
+use Rattle.stock_report.specs.Lines.{lines_of}
+use Rattle.stock_report.specs.Answers.{solution_rows}
 use Rattle.planner_top.specs.Certificates.{cert_bytes, bytes_in}
-use Rattle.planner_top.specs.Answers.{IsSolution, ending_by}
+use Rattle.planner_top.specs.Done.{IsSolution, ending_by}
+use Rattle.planner_top.specs.Answers.{IsTextOf}
 use Rattle.planner_top.specs.declared.answer.Answer.{Answer}
 
 feasible_as : (o : Outcome) (n : Net) (bound : ℕ) (plan : Option Plan) → TrueAs o n bound plan → IfSome plan (Feasible n)
@@ -47,22 +49,26 @@ pub record IsSearched (n : Net) (f : Forest) (budget filled : ℕ) (x : Cert) : 
 
 -- the answer that its certificate shows is the solution
 pub solution_shown : {E : Type 0} (r : Result Answer E) (c : Checked) (f : Forest) (budget filled : ℕ) (x : Cert) → IsSearched c.network f budget filled x
-    → IfOk r (λ a. a.ending ≡ ending_by x.verdict.outcome) → IfOk r (λ a. a.rows ≡ solution_rows c x.verdict (length x.nodes) (length x.tables)) → IfOk r (λ a. a.cert ≡ Some x)
-    → IfOk r (λ a. IsSolution a.ending a.rows filled (bytes_in a.cert) c f budget)
-solution_shown (Err e) c f budget filled x is ending rows cert = tt
-solution_shown (Ok a) c f budget filled x is ending rows cert = record {
-  search = x;
-  own = is.own;
-  true_verdict = is.true_verdict;
-  ending_is = ending;
-  rows_are = rows;
-  filled_is = is.filled_is;
-  cert_is = ap bytes_in cert;
-  accepted = is.accepted;
-  nodes = is.nodes;
-  full = is.full;
-  short = is.short;
-  solved = is.solved;
-  one = is.one;
-  stages = λ tree. is.filled_is ∙ is.stages tree;
-}
+    → IfOk r (λ a. a.ending ≡ ending_by x.verdict.outcome) → IfOk r (λ a. a.text ≡ lines_of (solution_rows c x.verdict (length x.nodes) (length x.tables))) → IfOk r (λ a. a.cert ≡ Some x)
+    → IfOk r (λ a. IsTextOf a.text (λ rows. IsSolution a.ending rows filled (bytes_in a.cert) c f budget))
+solution_shown (Err e) c f budget filled x is ending text cert = tt
+solution_shown (Ok a) c f budget filled x is ending text cert = (
+  solution_rows c x.verdict (length x.nodes) (length x.tables),
+  text,
+  record {
+    search = x;
+    own = is.own;
+    true_verdict = is.true_verdict;
+    ending_is = ending;
+    rows_are = refl;
+    filled_is = is.filled_is;
+    cert_is = ap bytes_in cert;
+    accepted = is.accepted;
+    nodes = is.nodes;
+    full = is.full;
+    short = is.short;
+    solved = is.solved;
+    one = is.one;
+    stages = λ tree. is.filled_is ∙ is.stages tree;
+  },
+)

@@ -2,20 +2,28 @@
 use Rattle.std.proofs.Common.{◌≡◌, ◌≤◌, ℕ, ◌+◌, List, [], ◌∷◌, ◌++◌, length, Option, option_map, refl, sym, ap, ◌∙◌, subst, arith, inl, inr}
 use Rattle.std.proofs.Math.Seq.{take-length}
 use Rattle.planner_top.specs.declared.filled.TheConstants.{MOST_FILLED}
-use Rattle.planner_top.specs.declared.stop.FileWord.{FileWord}
+use Rattle.command_words.specs.declared.file_word.FileWord.{FileWord}
 use Rattle.planner_top.specs.declared.answer.Ending.{Ending}
 use Rattle.planner_top.specs.declared.answer.Ending.TheVariants as ending
 use Rattle.planner_top.specs.declared.status.Status.{Status}
 use Rattle.planner_top.specs.declared.status.Status.TheVariants as status
-use Rattle.planner_top.specs.Asked.{cert_name}
-use Rattle.planner_top.specs.Texts.{fault_row, write_fault_row}
+use Rattle.command_words.specs.Asked.{cert_name}
+use Rattle.stock_report.specs.Lines.{lines_of}
+use Rattle.stock_report.specs.Refusals.{fault_row, write_fault_row}
 use Rattle.planner_top.specs.Answers.{IsAnswer}
-use Rattle.planner_top.specs.Runs.{Run, Follows, PartFollows, IsLater, Answered, IsUnsolved, IsFound, IsUnwritten, PrintsFront, status_of, StatusCase, FaultCase, Given, given_of, PutsFront, TellsFront, PutsAll, GivenCase}
+use Rattle.planner_top.specs.Runs.{Run, Follows, PartFollows, IsLater}
+use Rattle.planner_top.specs.Endings.{Answered, IsFound, status_of}
+use Rattle.planner_top.specs.Faults.{IsUnsolved, IsUnwritten, PrintsFront}
+use Rattle.planner_top.specs.StatusCases.{StatusCase, FaultCase, Given, given_of, PutsFront, TellsFront, PutsAll, GivenCase}
 
--- the answer that a run gives
-abbrev pub given_in : Run → Ending → List (List (List ℕ)) → Option (List ℕ) → Given
-given_in r e rows cert =
-    given_of e rows (cert_name r.words) cert r.held r.held_after r.writes r.writes_after r.written r.written_after r.faults r.faults_after
+-- the answer that a run gives, by its text
+abbrev pub given_with : Run → Ending → List ℕ → Option (List ℕ) → Given
+given_with r e text cert =
+    given_of e text (cert_name r.words) cert r.held r.held_after r.writes r.writes_after r.written r.written_after r.faults r.faults_after
+
+-- the same, by its rows
+abbrev given_in : Run → Ending → List (List (List ℕ)) → Option (List ℕ) → Given
+given_in r e rows cert = given_with r e (lines_of rows) cert
 
 found_ticks : (r : Run) (rows : List (List (List ℕ))) (cert : Option (List ℕ)) → IsFound r rows cert → (r.ticks ≤ r.ticks_after) × (r.ticks_after ≤ r.ticks + MOST_FILLED)
 found_ticks r rows cert found = (let ticks = found.ticks in let few = found.answer.few in (omega (arith, ticks), omega (arith, ticks, few)))
@@ -60,9 +68,9 @@ answered_case r ending.NotAccepted answered = answered
 answered_case r ending.NotFeasible answered = answered
 
 -- an answer was found and given
-pub given_case : (r : Run) (e : Ending) (rows : List (List (List ℕ))) (cert : Option (List ℕ)) (filled : ℕ) (s : Status) → r.reads_after ≡ r.reads → r.ticks_after ≡ r.ticks + filled
-    → IsAnswer r.words r.held e rows filled cert → GivenCase (given_in r e rows cert) s → StatusCase r s
-given_case r e rows cert filled s reads ticks answer case = from s case
+pub given_case : (r : Run) (e : Ending) (rows : List (List (List ℕ))) (text : List ℕ) (cert : Option (List ℕ)) (filled : ℕ) (s : Status) → text ≡ lines_of rows → r.reads_after ≡ r.reads → r.ticks_after ≡ r.ticks + filled
+    → IsAnswer r.words r.held e rows filled cert → GivenCase (given_with r e text cert) s → StatusCase r s
+given_case r e rows text cert filled s told reads ticks answer case = from s (subst (λ (x : List ℕ). GivenCase (given_with r e x cert) s) told case)
   where
     found : IsFound r rows cert
     found = record { reads = reads; ending = e; filled = filled; ticks = ticks; answer = answer }

@@ -20,17 +20,18 @@ use Rattle.network_check.specs.Budgets.{IsBudgetOf}
 use Rattle.network_check.specs.Checked.{supply_arcs, IsNetworkOf, IsChecked}
 use Rattle.network_check.specs.Refusals.{IsFirstTogether, IsFirstRefusal}
 use Rattle.network_check.proofs.RefusalLaws.{raw_within, one_refusal, one_network_of}
-use Rattle.planner_top.specs.declared.command.Command.{Command}
-use Rattle.planner_top.specs.declared.command.Command.TheVariants as command
-use Rattle.planner_top.specs.declared.contents.Contents.{Contents}
-use Rattle.planner_top.specs.declared.word_fault.WordFault.{WordFault}
+use Rattle.command_words.specs.declared.command.Command.{Command}
+use Rattle.command_words.specs.declared.command.Command.TheVariants as command
+use Rattle.request_files.specs.declared.contents.Contents.{Contents}
+use Rattle.command_words.specs.declared.word_fault.WordFault.{WordFault}
 use Rattle.planner_top.specs.declared.task.Task.{Task}
 use Rattle.planner_top.specs.declared.task.Task.TheVariants as task
-use Rattle.planner_top.specs.declared.stop.FileWord.{FileWord}
+use Rattle.command_words.specs.declared.file_word.FileWord.{FileWord}
 use Rattle.planner_top.specs.declared.stop.Stop.{Stop}
 use Rattle.planner_top.specs.declared.stop.Stop.TheVariants as stop
-use Rattle.planner_top.specs.Asked.{Asked, asked_of}
-use Rattle.planner_top.specs.Contents.{too_long_of, contents_of}
+use Rattle.command_words.specs.Asked.{Asked, asked_of}
+use Rattle.request_files.specs.Lengths.{too_long_of}
+use Rattle.request_files.specs.Contents.{contents_of}
 use Rattle.planner_top.specs.Tasks.{files_in, raw_in, IsForestIn, IsLastFault, IsTaskFrom, IsFirstRefused, IsTask}
 use Rattle.planner_top.specs.Problems.{IsTaskOf}
 use Rattle.planner_top.specs.Answers.{IsAskedProblem, IsProblem}

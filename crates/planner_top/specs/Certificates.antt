@@ -1,14 +1,15 @@
 -- Certificates of answers, as bytes on a shelf.
-use Rattle.std.specs.Prelude.{◌≡◌, ◌⊎◌, ℕ, List, ◌++◌, flat_map, Option, Some, None, option_map}
+use Rattle.std.specs.Prelude.{◌≡◌, ◌+◌, ℕ, List, Option, Some, None, ◌⊎◌, ◌++◌, option_map, flat_map}
 use Rattle.service_model.specs.declared.cert.Cert.{Cert}
-use Rattle.service_model.specs.Items.{items_of}
 use Rattle.gsm_outside.specs.Held.{Held, put_in}
+use Rattle.service_model.specs.Items.{items_of}
 use Rattle.bound_cert.specs.Lines.{line_of}
 
 -- the lines of a certificate, one after another
 unfoldable pub cert_bytes : Cert → List ℕ
 cert_bytes c = flat_map line_of (items_of c)
 
+-- the bytes of a certificate, where there is one
 abbrev pub bytes_in : Option Cert → Option (List ℕ)
 bytes_in cert = option_map cert_bytes cert
 

@@ -1,31 +1,33 @@
 -- The promise of the top call.
-use Rattle.std.specs.Prelude.{◌≡◌, ◌≢◌, ◌<◌, ◌≤◌, ◌+◌, ◌↔◌, ◌⊎◌, ℕ, List, [], length, Some, None, Ok, Err}
-use Rattle.stage_file.specs.declared.fault.FileFault.{FileFault}
-use Rattle.tree_order.specs.declared.forest.Forest.{Forest}
-use Rattle.network_check.specs.declared.checked.Checked.{Checked}
-use Rattle.gsm_outside.specs.Held.{Held}
-use Rattle.gsm_outside.specs.Causes.{Rose}
+use Rattle.std.specs.Prelude.{◌≡◌, ◌<◌, ◌≤◌, ◌+◌, ◌↔◌, ℕ, List, [], length, Some, None, Ok, Err, ◌⊎◌, ◌≢◌}
 use Rattle.service_model.specs.declared.plan.Plan.{Plan}
-use Rattle.service_model.specs.declared.cert.Verdict.{Verdict}
-use Rattle.service_model.specs.declared.cert.Outcome.TheVariants as outcome
 use Rattle.service_model.specs.declared.cert.Cert.{Cert}
-use Rattle.service_model.specs.Net.{Net}
 use Rattle.service_model.specs.Plans.{Feasible, Least, Empty, cost_of}
+use Rattle.service_model.specs.declared.cert.Verdict.{Verdict}
+use Rattle.cert_check.specs.Bytes.{IsAcceptedBytes, IsRefusedBytes}
+use Rattle.gsm_outside.specs.Held.{Held}
+use Rattle.tree_order.specs.declared.forest.Forest.{Forest}
 use Rattle.search_laws.specs.Own.{IsOwn}
 use Rattle.search_laws.specs.Enough.{enough_of}
-use Rattle.cert_check.specs.Bytes.{IsAcceptedBytes, IsRefusedBytes}
-use Rattle.planner_top.specs.Answers.{IsProblem}
-use Rattle.planner_top.specs.Asked.{cert_name}
-use Rattle.planner_top.specs.Certificates.{KeepsOthers}
-use Rattle.planner_top.specs.Runs.{Run, IsLater, Answered, FailedRead, PrintsFront, IsLeft, status_of, FailedWrite}
+use Rattle.network_check.specs.declared.checked.Checked.{Checked}
+use Rattle.command_words.specs.declared.word_fault.WordFault.{WordFault}
+use Rattle.service_model.specs.Net.{Net}
+use Rattle.stage_file.specs.declared.fault.FileFault.{FileFault}
+use Rattle.gsm_outside.specs.Causes.{Rose}
+use Rattle.command_words.specs.Asked.{cert_name}
+use Rattle.command_words.specs.declared.file_word.FileWord.{FileWord}
+use Rattle.service_model.specs.declared.cert.Outcome.TheVariants as outcome
 use Rattle.planner_top.specs.declared.task.Task.{Task}
-use Rattle.planner_top.specs.declared.task.Task.TheVariants as task
-use Rattle.planner_top.specs.declared.word_fault.WordFault.{WordFault}
-use Rattle.planner_top.specs.declared.stop.FileWord.{FileWord}
-use Rattle.planner_top.specs.declared.stop.Stop.TheVariants as stop
 use Rattle.planner_top.specs.declared.answer.Ending.{Ending}
+use Rattle.planner_top.specs.declared.task.Task.TheVariants as task
+use Rattle.planner_top.specs.declared.stop.Stop.TheVariants as stop
 use Rattle.planner_top.specs.declared.answer.Ending.TheVariants as ending
 use Rattle.planner_top.specs.declared.status.Status.TheVariants as status
+use Rattle.planner_top.specs.Certificates.{KeepsOthers}
+use Rattle.planner_top.specs.Answers.{IsProblem}
+use Rattle.planner_top.specs.Runs.{Run, IsLater}
+use Rattle.planner_top.specs.Endings.{status_of, Answered}
+use Rattle.planner_top.specs.Faults.{FailedRead, PrintsFront, IsLeft, FailedWrite}
 
 -- a task that can be done: there is a least plan, the plan is feasible, or the certificate is accepted
 abbrev pub CanBeDone : Task → Type 0
@@ -81,6 +83,7 @@ pub record IsSure (r : Run) : Type 0 where
   pub puts : ¬ Rose r.faults r.faults_after
   pub memory : r.status ≢ status.NoMemory
 
+-- the promise of a run: what it answers, what each fault leaves, and that nothing else changes
 pub record Headline (r : Run) : Type 0 where
   -- whatever the status, the shelf holds what it held, but for the certificate that the words ask for: where they ask for none, no
   -- write to it failed

@@ -1,25 +1,25 @@
 -- What the calls give that a run is made of, with the count of failed reads before and after them.
-use Rattle.std.specs.Prelude.{◌≡◌, ◌≤◌, ◌+◌, ℕ, List, Option, Result, Ok, Err, IsOk, IfSome, ⊤}
+use Rattle.std.specs.Prelude.{◌≡◌, ◌≤◌, ◌+◌, ℕ, List, Option, Result, Ok, Err, IfSome, ⊤, IsOk}
 use Rattle.gsm_outside.specs.Held.{Held}
+use Rattle.command_words.specs.Asked.{Asked, asked_of}
+use Rattle.command_words.specs.declared.command.Command.{Command}
 use Rattle.gsm_outside.specs.Causes.{Rose}
-use Rattle.planner_top.specs.Asked.{Asked, asked_of}
-use Rattle.planner_top.specs.Contents.{IsUnread}
-use Rattle.planner_top.specs.Tasks.{IsReady}
-use Rattle.planner_top.specs.Certificates.{bytes_in}
-use Rattle.planner_top.specs.Answers.{IsAskedProblem, IsProblem, IsAnswer}
+use Rattle.command_words.specs.declared.file_word.FileWord.{FileWord}
+use Rattle.request_files.specs.Contents.{IsUnread}
+use Rattle.command_words.specs.declared.command.Command.TheVariants as command
 use Rattle.planner_top.specs.declared.filled.TheConstants.{MOST_FILLED}
-use Rattle.planner_top.specs.declared.command.Command.{Command}
-use Rattle.planner_top.specs.declared.command.Command.TheVariants as command
 use Rattle.planner_top.specs.declared.task.Task.{Task}
-use Rattle.planner_top.specs.declared.task.Task.TheVariants as task
-use Rattle.planner_top.specs.declared.stop.FileWord.{FileWord}
 use Rattle.planner_top.specs.declared.stop.Stop.{Stop}
-use Rattle.planner_top.specs.declared.stop.Stop.TheVariants as stop
 use Rattle.planner_top.specs.declared.stop.Unsolved.{Unsolved}
-use Rattle.planner_top.specs.declared.stop.Unsolved.TheVariants as unsolved
 use Rattle.planner_top.specs.declared.answer.Answer.{Answer}
 use Rattle.planner_top.specs.declared.answer.Unanswered.{Unanswered}
+use Rattle.planner_top.specs.declared.task.Task.TheVariants as task
+use Rattle.planner_top.specs.declared.stop.Stop.TheVariants as stop
+use Rattle.planner_top.specs.declared.stop.Unsolved.TheVariants as unsolved
 use Rattle.planner_top.specs.declared.answer.Unanswered.TheVariants as unanswered
+use Rattle.planner_top.specs.Tasks.{IsReady}
+use Rattle.planner_top.specs.Certificates.{bytes_in}
+use Rattle.planner_top.specs.Answers.{IsAskedProblem, IsProblem, IsAnswer, IsTextOf}
 
 -- words are refused as such exactly where a rule on them fails
 abbrev pub TellsWords : List (List ℕ) → Stop → Type 0
@@ -58,7 +58,7 @@ ProblemCase words held before now (Err unsolved.NoMemory) = before ≤ now
 -- the answer to the words, or why there is none, with the count of filled tables before and after
 abbrev pub AnswerCase : List (List ℕ) → Option Held → ℕ → ℕ → ℕ → ℕ → Result Answer Unanswered → Type 0
 AnswerCase words held before now ticks ticked (Ok a) =
-    (now ≡ before) × ((filled : ℕ) × (ticked ≡ ticks + filled) × IsAnswer words held a.ending a.rows filled (bytes_in a.cert))
+    (now ≡ before) × ((filled : ℕ) × (ticked ≡ ticks + filled) × IsTextOf a.text (λ rows. IsAnswer words held a.ending rows filled (bytes_in a.cert)))
 AnswerCase words held before now ticks ticked (Err (unanswered.Fault word)) =
     (before ≤ now) × Rose before now × IsUnreadOf words held word × (ticked ≡ ticks)
 AnswerCase words held before now ticks ticked (Err unanswered.NoMemory) =

@@ -1,36 +1,32 @@
 -- What a request asks to be done with the network of its files, or the first rule on files that fails.
-use Rattle.std.specs.Prelude.{◌≡◌, ◌≤◌, ℕ, ◌+◌, ◌*◌, nat_le, IsTrue, List, length, Option, Some, None, MatchOption, Result, Ok, Err, if◌then◌else◌, ⊤}
+use Rattle.std.specs.Prelude.{◌≡◌, ◌≤◌, ◌+◌, ℕ, List, length, Option, Some, None, Result, Ok, Err, MatchOption, ◌*◌, nat_le, IsTrue, if◌then◌else◌}
+use Rattle.tree_order.specs.declared.forest.Forest.{Forest}
+use Rattle.command_words.specs.declared.command.Command.{Command}
 use Rattle.service_model.specs.declared.cert_rules.TheConstants.{MAX_BUDGET}
 use Rattle.service_model.specs.Net.{Net}
 use Rattle.service_model.specs.Plans.{HasTimes}
 use Rattle.stage_file.specs.declared.raw.Files.{Files}
 use Rattle.stage_file.specs.declared.raw.RawNet.{RawNet}
 use Rattle.stage_file.specs.declared.fault.FileFault.{FileFault}
-use Rattle.stage_file.specs.declared.fault.FileKind.TheVariants as kind
-use Rattle.stage_file.specs.declared.fault.ReadFault.{ReadFault}
-use Rattle.stage_file.specs.declared.fault.ReadFault.TheVariants as read
 use Rattle.stage_file.specs.declared.rules.TheConstants.{BUDGET}
 use Rattle.stage_file.specs.Faults.{fault_of}
 use Rattle.stage_file.specs.Rows.{rows_of_bytes}
 use Rattle.stage_file.specs.Arcs.{names_of}
 use Rattle.stage_file.specs.Raw.{raw_of}
 use Rattle.stage_file.specs.PlanRecords.{plan_file_fault, plan_of}
-use Rattle.tree_order.specs.declared.forest.Forest.{Forest}
 use Rattle.tree_order.specs.Forest.{IsForest, IsOnlyForest}
 use Rattle.network_check.specs.declared.budget.TheConstants.{MOST_VALUES}
 use Rattle.network_check.specs.Budgets.{keeps_budget, IsBudgetOf}
 use Rattle.network_check.specs.Checked.{supply_arcs, IsNetworkOf, IsChecked}
-use Rattle.network_check.specs.Refusals.{IsFirstTogether, IsFirstRefusal}
-use Rattle.planner_top.specs.declared.files.TheConstants.{CERT_LIMIT}
-use Rattle.planner_top.specs.declared.command.Command.{Command}
-use Rattle.planner_top.specs.declared.command.Command.TheVariants as command
-use Rattle.planner_top.specs.declared.contents.Contents.{Contents}
+use Rattle.network_check.specs.Refusals.{IsFirstRefusal}
+use Rattle.request_files.specs.declared.files.TheConstants.{CERT_LIMIT}
+use Rattle.request_files.specs.declared.contents.Contents.{Contents}
+use Rattle.command_words.specs.declared.command.Command.TheVariants as command
+use Rattle.stage_file.specs.declared.fault.FileKind.TheVariants as kind
 use Rattle.planner_top.specs.declared.task.Task.{Task}
-use Rattle.planner_top.specs.declared.task.Task.TheVariants as task
 use Rattle.planner_top.specs.declared.stop.Stop.{Stop}
+use Rattle.planner_top.specs.declared.task.Task.TheVariants as task
 use Rattle.planner_top.specs.declared.stop.Stop.TheVariants as stop
-use Rattle.planner_top.specs.declared.stop.Unsolved.{Unsolved}
-use Rattle.planner_top.specs.declared.stop.Unsolved.TheVariants as unsolved
 
 -- the rows of the three files of a network
 abbrev pub files_in : Contents → Files
@@ -91,34 +87,3 @@ abbrev pub IsReady : Task → Type 0
 IsReady (task.Solve c f budget) = IsChecked c × IsForest (length c.network.stages) c.network.arcs f × IsBudget c.network budget
 IsReady (task.Audit c plan) = IsChecked c × HasTimes c.network plan
 IsReady (task.Check c bytes) = IsChecked c × (length bytes ≤ CERT_LIMIT)
-
--- what a call gives that finds the task of records on which no rule on the network fails
-abbrev pub LastCase : Command → Option ℕ → RawNet → List ℕ → Result Task Unsolved → Type 0
-LastCase command ranges raw further (Ok t) = IsLastFault command ranges raw further None × IsTaskFrom command ranges raw further t × IsReady t
-LastCase command ranges raw further (Err (unsolved.Stop (stop.Refused fault))) = IsLastFault command ranges raw further (Some fault)
-LastCase command ranges raw further (Err (unsolved.Stop _)) = ⊥
-LastCase command ranges raw further (Err (unsolved.Fault word)) = ⊥
-LastCase command ranges raw further (Err unsolved.NoMemory) = ⊤
-
--- what a call gives that finds the task of records: it, or the first rule that fails on them together or behind
-abbrev pub TogetherCase : Command → Option ℕ → RawNet → List ℕ → Result Task Unsolved → Type 0
-TogetherCase command ranges raw further (Ok t) =
-    IsFirstTogether raw None × IsLastFault command ranges raw further None × IsTaskFrom command ranges raw further t × IsReady t
-TogetherCase command ranges raw further (Err (unsolved.Stop (stop.Refused fault))) =
-    (before : Option FileFault) × IsFirstTogether raw before
-    × MatchOption before (IsLastFault command ranges raw further (Some fault)) (λ f. fault ≡ f)
-TogetherCase command ranges raw further (Err (unsolved.Stop _)) = ⊥
-TogetherCase command ranges raw further (Err (unsolved.Fault word)) = ⊥
-TogetherCase command ranges raw further (Err unsolved.NoMemory) = ⊤
-
--- what a call gives that finds the task
-abbrev pub TaskCase : Command → Option ℕ → ℕ → Contents → Result Task Unsolved → Type 0
-TaskCase command ranges horizon c (Ok t) = IsTask command ranges horizon c (Ok t) × IsReady t
-TaskCase command ranges horizon c (Err (unsolved.Stop s)) = IsTask command ranges horizon c (Err s)
-TaskCase command ranges horizon c (Err (unsolved.Fault word)) = ⊥
-TaskCase command ranges horizon c (Err unsolved.NoMemory) = ⊤
-
--- why there is nothing to do, where files were not read into records
-abbrev pub unsolved_by : ReadFault → Unsolved
-unsolved_by (read.Fault fault) = unsolved.Stop (stop.Refused fault)
-unsolved_by read.NoMemory = unsolved.NoMemory

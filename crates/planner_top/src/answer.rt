@@ -1,10 +1,10 @@
-// The rows that are printed, and how a run ends that prints them.
+// The text that is printed, and how a run ends that prints it.
 ghost use Rattle.std.specs.Prelude.{◌≡◌};
 ghost use Rattle.planner_top.specs.declared.answer.Unanswered.TheVariants as unanswered;
 
-use crate::stop::FileWord;
+use command_words::FileWord;
 use service_model::{Cert, NoMemory};
-use stage_file::Rows;
+use stage_file::Text;
 
 /// How a run ends where memory sufficed and no call on the outside failed.
 #[derive(Clone, Copy, Debug, PartialEq, Eq)]
@@ -22,11 +22,11 @@ pub enum Ending {
     NotFeasible,
 }
 
-/// An ending, with the rows that are printed, and the certificate that shows the answer where a network was solved.
+/// An ending, with the text that is printed, and the certificate that shows the answer where a network was solved.
 #[derive(Drop)]
 pub struct Answer {
     pub ending: Ending,
-    pub rows: Rows,
+    pub text: Text,
     pub cert: Option<Cert>,
 }
 

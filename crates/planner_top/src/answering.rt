@@ -1,30 +1,29 @@
 // From the words to the answer.
 ghost use Rattle.std.specs.Prelude.{◌≡◌, ◌≤◌, ◌+◌, ◌-◌, ◌^◌, IfOk, OnErr};
 ghost use Rattle.service_model.specs.declared.limits.TheConstants.{MAX_HORIZON};
-ghost use Rattle.planner_top.specs.Requests.{request_as, IsRanges};
+ghost use Rattle.command_words.specs.Requests.{request_as, IsRanges};
 ghost use Rattle.planner_top.specs.Tasks.{IsReady};
 ghost use Rattle.planner_top.specs.Certificates.{bytes_in};
-ghost use Rattle.planner_top.specs.Answers.{IsDone};
+ghost use Rattle.planner_top.specs.Done.{IsDone};
+ghost use Rattle.planner_top.specs.Answers.{IsTextOf};
 ghost use Rattle.planner_top.specs.Problems.{ProblemCase, AskedCase, AnswerCase};
 
 use crate::answer::{Answer, Unanswered};
-use crate::asked::Request;
 use crate::audit::audit_of;
 use crate::check::check_of;
-use crate::files::read_files;
 use crate::filled::MOST_FILLED;
 use crate::refusal::refusal_of;
-use crate::request::request_of;
 use crate::solve::solution_of;
-use crate::stop::{Stop, Unsolved};
+use crate::stop::{Stop, Unsolved, unsolved_as};
 use crate::task::{Task, task_of};
-use crate::words::Words;
+use command_words::{Request, Words, request_of};
 use gsm_outside::Shelf;
+use request_files::read_files;
 use service_model::NoMemory;
 use std::alloc::Global;
 use step_ledger::Steps;
 
-/// The answer to the words, with the rows that are printed. The steps count the tables that are filled.
+/// The answer to the words, with the text that is printed. The steps count the tables that are filled.
 pub fn answer_of<S: Shelf, L>(
     alloc: Global,
     words: &Words,
@@ -76,7 +75,7 @@ fn asked_problem<S: Shelf>(
             request.horizon,
             contents,
         ),
-        Err(unsolved) => Err(unsolved),
+        Err(unread) => Err(unsolved_as(unread)),
     }
 }
 
@@ -84,7 +83,7 @@ fn asked_problem<S: Shelf>(
 fn done_of<L>(alloc: Global, task: &Task, steps: &mut Steps<L>) -> Result<Answer, NoMemory>
     requires ready { IsReady task.now }
     requires room { steps.old ≤ 2 ^ 62 }
-    ensures done { IfOk result (λ a. IsDone a.ending a.rows (steps.new - steps.old) (bytes_in a.cert) task.now) }
+    ensures done { IfOk result (λ a. IsTextOf a.text (λ rows. IsDone a.ending rows (steps.new - steps.old) (bytes_in a.cert) task.now)) }
     ensures later { steps.old ≤ steps.new }
     ensures few { steps.new ≤ steps.old + MOST_FILLED }
 {

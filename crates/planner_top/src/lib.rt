@@ -3,18 +3,10 @@
 
 mod answer;
 mod answering;
-mod asked;
 mod audit;
 mod check;
-mod command;
-mod contents;
-mod fetch;
-mod files;
 mod filled;
-mod outcome;
 mod refusal;
-mod report;
-mod request;
 mod search;
 mod solve;
 mod status;
@@ -32,14 +24,9 @@ mod tests_failed;
 mod tests_loops;
 #[cfg(test)]
 mod tests_trees;
-mod text;
 mod top;
-mod word_fault;
-mod word_rules;
-mod word_tests;
-mod words;
 mod write;
 
+pub use command_words::Words;
 pub use status::Status;
 pub use top::run;
-pub use words::Words;

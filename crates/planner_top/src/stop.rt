@@ -1,32 +1,12 @@
 // Why a run ends before there is something to do.
 ghost use Rattle.std.specs.Prelude.{◌≡◌};
 ghost use Rattle.planner_top.specs.declared.stop.Unsolved.TheVariants as unsolved;
-ghost use Rattle.planner_top.specs.Tasks.{unsolved_by};
+ghost use Rattle.planner_top.specs.Stops.{unsolved_by, unsolved_as};
 
-use crate::word_fault::WordFault;
+use command_words::{FileWord, WordFault};
+use request_files::Unread;
 use service_model::NoMemory;
 use stage_file::{FileFault, ReadFault};
-
-/// A file that a run reads.
-#[derive(Clone, Copy, Debug, PartialEq, Eq)]
-pub enum FileWord {
-    Stages,
-    Tables,
-    Arcs,
-    Plan,
-    /// A certificate.
-    Cert,
-}
-
-/// Why one file was not read.
-#[derive(Clone, Copy, Debug, PartialEq, Eq)]
-pub enum ReadStop {
-    /// A fetch failed.
-    Fault,
-    /// It is longer than its limit.
-    TooLong,
-    NoMemory,
-}
 
 /// Why a run is refused: by a rule on its words, by the length of a file, or by a rule on the files.
 #[derive(Clone, Copy, Debug, PartialEq, Eq)]
@@ -60,5 +40,16 @@ pub fn unsolved_by(fault: ReadFault) -> Unsolved
     match fault {
         ReadFault::Fault(fault) => Unsolved::Stop(Stop::Refused(fault)),
         ReadFault::NoMemory => Unsolved::NoMemory,
+    }
+}
+
+/// Why there is nothing to do, where the files of a request were not read.
+pub fn unsolved_as(unread: Unread) -> Unsolved
+    ensures { result ≡ unsolved_as unread }
+{
+    match unread {
+        Unread::TooLong(file) => Unsolved::Stop(Stop::TooLong(file)),
+        Unread::Fault(file) => Unsolved::Fault(file),
+        Unread::NoMemory => Unsolved::NoMemory,
     }
 }

@@ -8,16 +8,16 @@ ghost use Rattle.stage_file.specs.Arcs.{names_of};
 ghost use Rattle.stage_file.specs.PlanRecords.{plan_file_fault, plan_of};
 ghost use Rattle.stage_file.specs.Faults.{Reads};
 ghost use Rattle.network_check.specs.Checked.{IsNetworkOf, IsChecked};
-ghost use Rattle.planner_top.specs.Commands.{further_file};
-ghost use Rattle.planner_top.specs.Contents.{AreShort, IsWithin};
-ghost use Rattle.planner_top.specs.Requests.{IsRanges};
-ghost use Rattle.planner_top.specs.Tasks.{files_in, TaskCase, TogetherCase, LastCase};
+ghost use Rattle.command_words.specs.Commands.{further_file};
+ghost use Rattle.request_files.specs.Lengths.{AreShort, IsWithin};
+ghost use Rattle.command_words.specs.Requests.{IsRanges};
+ghost use Rattle.planner_top.specs.Tasks.{files_in};
+ghost use Rattle.planner_top.specs.TaskCases.{TaskCase, TogetherCase, LastCase};
 
-use crate::command::Command;
-use crate::contents::Contents;
-use crate::files::FILE_LIMIT;
 use crate::stop::{Stop, Unsolved, unsolved_by};
+use command_words::Command;
 use network_check::{Checked, budget_of, check_records};
+use request_files::{Contents, FILE_LIMIT};
 use service_model::{NoMemory, Plan};
 use stage_file::{Files, RawNet, ReadFault, Rows, Text, raw_net, read_plan, rows_of};
 use std::alloc::Global;
@@ -95,7 +95,7 @@ fn task_in(
 {
     match check_records(alloc, raw) {
         Ok(checked) => last_of(alloc, command, ranges, raw, checked, further),
-        Err(fault) => Err(unsolved_by(fault)),
+        Err(refusal) => Err(unsolved_by(refusal)),
     }
 }
 

@@ -1,9 +1,6 @@
-ghost use Rattle.std.specs.Prelude.{◌≡◌, Some};
-ghost use Rattle.gsm_outside.specs.Memory.{mem_files, mem_read_faults, mem_write_faults};
-
 use super::*;
 use crate::tests::{run_once, words_of};
-use gsm_outside::{MemShelf, MemSink, OutFault, Shelf};
+use gsm_outside::{MemShelf, MemSink};
 use std::alloc::Global;
 use std::test::Fail;
 
@@ -17,78 +14,6 @@ fn plain_shelf(alloc: Global, failing: Vec<u64>) -> Result<MemShelf, Fail> {
     shelf.with_file("t", b"table,x\nt,0,10,14,17,20,22\n")?;
     shelf.with_file("a", b"supplier,customer,quantity\n")?;
     Ok(shelf)
-}
-
-// A shelf that counts the fetches from another.
-#[derive(Drop)]
-struct CountingShelf {
-    shelf: MemShelf,
-    fetches: u64,
-}
-
-impl Shelf for CountingShelf {
-    ghost held = { λ counting. Some (mem_files counting.shelf) };
-
-    ghost read_faults = { λ counting. mem_read_faults counting.shelf };
-
-    ghost write_faults = { λ counting. mem_write_faults counting.shelf };
-
-    fn fetch(&mut self, name: &str, at: u64, buf: &mut [u8]) -> Result<usize, OutFault> {
-        self.fetches = self.fetches.saturating_add(1);
-        self.shelf.fetch(name, at, buf)
-    }
-
-    fn create(&mut self, name: &str) -> Result<(), OutFault> {
-        self.shelf.create(name)
-    }
-
-    fn append(&mut self, name: &str, piece: &[u8]) -> Result<(), OutFault> {
-        self.shelf.append(name, piece)
-    }
-}
-
-#[test]
-fn no_fetch_follows_one_that_failed(rt: HostRuntime) -> Result<(), Fail> {
-    let alloc = rt.alloc();
-    let words = words_of(
-        alloc,
-        &["solve", "stages=s", "tables=t", "arcs=a", "horizon=10"],
-    )?;
-    for call in 1..7 {
-        let mut shelf = CountingShelf {
-            shelf: plain_shelf(alloc, vec![in alloc; call]?)?,
-            fetches: 0,
-        };
-        let mut out = MemSink::new(alloc, Vec::new(alloc));
-        let status = run_once(alloc, &words, &mut shelf, &mut out);
-        assert_eq!(rt; (status, shelf.fetches), (Status::ReadFault, call));
-    }
-    Ok(())
-}
-
-#[test]
-fn each_read_that_fails_is_told_by_its_file(rt: HostRuntime) -> Result<(), Fail> {
-    let alloc = rt.alloc();
-    let words = words_of(
-        alloc,
-        &["solve", "stages=s", "tables=t", "arcs=a", "horizon=10"],
-    )?;
-    let cases: [(u64, &str); 6] = [
-        (1, "read fault,stages\n"),
-        (2, "read fault,stages\n"),
-        (3, "read fault,tables\n"),
-        (4, "read fault,tables\n"),
-        (5, "read fault,arcs\n"),
-        (6, "read fault,arcs\n"),
-    ];
-    for (call, text) in cases {
-        let mut shelf = plain_shelf(alloc, vec![in alloc; call]?)?;
-        let mut out = MemSink::new(alloc, Vec::new(alloc));
-        let status = run_once(alloc, &words, &mut shelf, &mut out);
-        assert_eq!(rt; status, Status::ReadFault, "call {call}");
-        assert_eq!(rt; out.written(), text.as_bytes(), "call {call}");
-    }
-    Ok(())
 }
 
 #[test]

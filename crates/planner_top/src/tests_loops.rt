@@ -66,9 +66,10 @@ fn shelf_of(alloc: Global, files: [&str; 3]) -> Result<SureShelf, Fail> {
     Ok(shelf)
 }
 
-// Solves the diamond within a budget and writes its certificate, into the sink.
-fn solve_diamond(
+// Solves a network within a budget and writes its certificate, into the sink.
+fn solve_within(
     alloc: Global,
+    horizon: &str,
     ranges: &str,
     shelf: &mut SureShelf,
     out: &mut SureSink,
@@ -76,51 +77,45 @@ fn solve_diamond(
     let words = words_of(
         alloc,
         &[
-            "solve",
-            "stages=s",
-            "tables=t",
-            "arcs=a",
-            "horizon=2",
-            ranges,
-            "cert=c",
+            "solve", "stages=s", "tables=t", "arcs=a", horizon, ranges, "cert=c",
         ],
     )?;
     Ok(run_once(alloc, &words, shelf, out))
 }
 
-// Checks a certificate of the diamond, into the sink.
-fn check_diamond(alloc: Global, shelf: &mut SureShelf, out: &mut SureSink) -> Result<Status, Fail> {
+// Checks the certificate of a network, into the sink.
+fn check_written(
+    alloc: Global,
+    horizon: &str,
+    shelf: &mut SureShelf,
+    out: &mut SureSink,
+) -> Result<Status, Fail> {
     let words = words_of(
         alloc,
-        &[
-            "check",
-            "stages=s",
-            "tables=t",
-            "arcs=a",
-            "horizon=2",
-            "cert=c",
-        ],
+        &["check", "stages=s", "tables=t", "arcs=a", horizon, "cert=c"],
     )?;
     Ok(run_once(alloc, &words, shelf, out))
 }
 
-// Solves the diamond within a budget and checks the certificate that was written, each into a sink.
+// Solves a network within a budget and checks the certificate that was written, each into a sink.
 fn solve_and_check(
     alloc: Global,
+    files: [&str; 3],
+    horizon: &str,
     ranges: &str,
     solved: &mut SureSink,
     checked: &mut SureSink,
 ) -> Result<(Status, Status), Fail> {
-    let mut shelf = shelf_of(alloc, DIAMOND)?;
-    let status = solve_diamond(alloc, ranges, &mut shelf, solved)?;
-    Ok((status, check_diamond(alloc, &mut shelf, checked)?))
+    let mut shelf = shelf_of(alloc, files)?;
+    let status = solve_within(alloc, horizon, ranges, &mut shelf, solved)?;
+    Ok((status, check_written(alloc, horizon, &mut shelf, checked)?))
 }
 
 // Checks these bytes as a certificate of the diamond, into the sink.
 fn check_bytes_of(alloc: Global, cert: &[u8], out: &mut SureSink) -> Result<Status, Fail> {
     let mut shelf = shelf_of(alloc, DIAMOND)?;
     shelf.with_file("c", cert)?;
-    check_diamond(alloc, &mut shelf, out)
+    check_written(alloc, "horizon=2", &mut shelf, out)
 }
 
 #[test]
@@ -129,7 +124,14 @@ fn the_certificate_of_a_search_is_accepted(rt: HostRuntime) -> Result<(), Fail> 
     for (ranges, status, text, told) in BUDGETS {
         let mut solved = SureSink::new(alloc);
         let mut checked = SureSink::new(alloc);
-        let got = solve_and_check(alloc, ranges, &mut solved, &mut checked)?;
+        let got = solve_and_check(
+            alloc,
+            DIAMOND,
+            "horizon=2",
+            ranges,
+            &mut solved,
+            &mut checked,
+        )?;
         assert_eq!(rt; got, (status, Status::Done), "{}", ranges);
         assert_eq!(rt; solved.written(), text.as_bytes(), "{}", ranges);
         assert_eq!(rt; checked.written(), told.as_bytes(), "{}", ranges);
@@ -142,7 +144,7 @@ fn the_certificate_of_the_diamond_has_a_split(rt: HostRuntime) -> Result<(), Fai
     let alloc = rt.alloc();
     let mut shelf = shelf_of(alloc, DIAMOND)?;
     let mut out = SureSink::new(alloc);
-    solve_diamond(alloc, "ranges=1000", &mut shelf, &mut out)?;
+    solve_within(alloc, "horizon=2", "ranges=1000", &mut shelf, &mut out)?;
     let written = shelf.bytes_of("c").ok_or("no certificate")?;
     let one = cert_with(alloc, &LINES, 9, LINES[9])?;
     let other = cert_with(alloc, &LINES, 9, OTHER)?;
@@ -160,6 +162,31 @@ fn a_forged_certificate_of_the_diamond_is_not_accepted(rt: HostRuntime) -> Resul
         let got = (status, out.written());
         assert_eq!(rt; got, (Status::NotAccepted, text.as_bytes()));
     }
+    Ok(())
+}
+
+// Parts that are built, sold in two regions and kept as spares: Board and Battery supply both Build and Spares.
+const LAPTOP: [&str; 3] = [
+    "stage,lead,supply,least,most,bound,unit\nPanel,30,,,,pool,40\nBoard,15,,,,pool,60\nChip,45,,,,pool,25\nBattery,20,,,,pool,15\nBuild,5,,,,pool,200\nEast,3,,,0,normal:120,260\nWest,6,,,2,normal:90,260\nSpares,4,,,10,normal:12,70\n",
+    "table,x\n",
+    "supplier,customer,quantity\nPanel,Build,1\nChip,Board,1\nBoard,Build,1\nBattery,Build,1\nBuild,East,1\nBuild,West,1\nBoard,Spares,1\nBattery,Spares,1\n",
+];
+
+#[test]
+fn the_certificate_of_the_laptop_is_accepted(rt: HostRuntime) -> Result<(), Fail> {
+    let alloc = rt.alloc();
+    let mut solved = SureSink::new(alloc);
+    let mut checked = SureSink::new(alloc);
+    solve_and_check(
+        alloc,
+        LAPTOP,
+        "horizon=60",
+        "ranges=1000",
+        &mut solved,
+        &mut checked,
+    )?;
+    assert!(rt; solved.written().starts_with(b"optimal,261960\n"));
+    assert_eq!(rt; checked.written(), b"valid,optimal,261960\n".as_slice());
     Ok(())
 }
 

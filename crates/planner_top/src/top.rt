@@ -1,26 +1,23 @@
 // The top call.
-ghost use Rattle.std.specs.Prelude.{◌≡◌, ◌≤◌, ◌^◌, [], ◌∷◌, None, IfOk, OnOk, OnErr, option_map};
+ghost use Rattle.std.specs.Prelude.{◌≡◌, ◌≤◌, ◌^◌, None, OnOk, OnErr, option_map};
 ghost use Rattle.gsm_outside.specs.Causes.{HasCause};
-ghost use Rattle.planner_top.specs.Asked.{cert_name};
-ghost use Rattle.planner_top.specs.Texts.{lines_of, fault_row, write_fault_row};
+ghost use Rattle.command_words.specs.Asked.{cert_name};
 ghost use Rattle.planner_top.specs.Certificates.{bytes_in, KeepsOthers};
-ghost use Rattle.planner_top.specs.Runs.{run_of, Follows, PartFollows, StatusCase, status_of, FaultCase, GivenCase, given_of, ToldCase};
+ghost use Rattle.planner_top.specs.Runs.{run_of, Follows, PartFollows};
+ghost use Rattle.planner_top.specs.Endings.{status_of};
+ghost use Rattle.planner_top.specs.StatusCases.{StatusCase, FaultCase, GivenCase, given_of, ToldCase};
 ghost use Rattle.planner_top.specs.Headline.{Headline};
 
 use crate::answer::{Answer, Ending, Unanswered};
 use crate::answering::answer_of;
-use crate::refusal::file_text;
-use crate::request::cert_name;
 use crate::status::Status;
-use crate::stop::FileWord;
-use crate::text::{row_of, text_of};
-use crate::words::Words;
 use crate::write::write_cert;
+use command_words::{FileWord, Words, cert_name};
 use gsm_outside::{OutFault, Shelf, Sink};
-use service_model::{List, NoMemory};
-use stage_file::{Row, Rows};
+use stage_file::Text;
 use std::alloc::Global;
 use step_ledger::Steps;
+use stock_report::{read_fault_text, write_fault_text};
 
 /// Does all that the program does: reads the files that the words name, does what they ask, writes the certificate if they
 /// ask for one, and prints the answer. The steps count the tables that are filled.
@@ -65,13 +62,13 @@ fn give<S: Shelf, K: Sink>(
     name: Option<&str>,
     answer: Answer,
 ) -> Status
-    ensures case { GivenCase (given_of answer.ending answer.rows (option_map (λ s. s.now) name.entry) (bytes_in answer.cert) (S.held shelf.old) (S.held shelf.new) (S.write_faults shelf.old) (S.write_faults shelf.new) (K.written out.old) (K.written out.new) (K.faults out.old) (K.faults out.new)) result }
+    ensures case { GivenCase (given_of answer.ending answer.text (option_map (λ s. s.now) name.entry) (bytes_in answer.cert) (S.held shelf.old) (S.held shelf.new) (S.write_faults shelf.old) (S.write_faults shelf.new) (K.written out.old) (K.written out.new) (K.faults out.old) (K.faults out.new)) result }
     ensures writes { option_map (λ s. s.now) name.entry ≡ None → S.write_faults shelf.new ≡ S.write_faults shelf.old }
     ensures reads { S.read_faults shelf.new ≡ S.read_faults shelf.old }
 {
-    let Answer { ending, rows, cert } = answer;
+    let Answer { ending, text, cert } = answer;
     match write_cert(alloc, shelf, name, cert) {
-        Ok(()) => match print(alloc, out, rows.as_slice()) {
+        Ok(()) => match print(out, &text) {
             Ok(()) => status_of(ending),
             Err(OutFault::Failed) => Status::WriteFault,
             Err(OutFault::NoMemory) => Status::NoMemory,
@@ -96,15 +93,12 @@ fn status_of(ending: Ending) -> Status
     }
 }
 
-// Prints rows.
-fn print<K: Sink>(alloc: Global, out: &mut K, rows: &[Row]) -> Result<(), OutFault>
-    ensures ok { OnOk result (Follows (K.written out.old) (lines_of rows.now) (K.written out.new)) }
-    ensures err { OnErr result (PartFollows (K.written out.old) (lines_of rows.now) (K.written out.new)) }
+// Prints a text.
+fn print<K: Sink>(out: &mut K, text: &Text) -> Result<(), OutFault>
+    ensures ok { OnOk result (Follows (K.written out.old) text.now (K.written out.new)) }
+    ensures err { OnErr result (PartFollows (K.written out.old) text.now (K.written out.new)) }
     ensures cause { HasCause (K.faults out.old) (K.faults out.new) result }
 {
-    let Ok(text) = text_of(alloc, rows) else {
-        return Err(OutFault::NoMemory);
-    };
     out.put(text.as_slice())
 }
 
@@ -112,10 +106,10 @@ fn print<K: Sink>(alloc: Global, out: &mut K, rows: &[Row]) -> Result<(), OutFau
 fn print_fault<K: Sink>(alloc: Global, out: &mut K, file: FileWord) -> Status
     ensures { FaultCase file (K.written out.old) (K.written out.new) (K.faults out.old) (K.faults out.new) result }
 {
-    let Ok(rows) = fault_rows(alloc, file) else {
+    let Ok(text) = read_fault_text(alloc, file) else {
         return Status::NoMemory;
     };
-    match print(alloc, out, rows.as_slice()) {
+    match print(out, &text) {
         Ok(()) => Status::ReadFault,
         Err(OutFault::Failed) => Status::WriteFault,
         Err(OutFault::NoMemory) => Status::NoMemory,
@@ -126,28 +120,12 @@ fn print_fault<K: Sink>(alloc: Global, out: &mut K, file: FileWord) -> Status
 fn print_unwritten<K: Sink>(alloc: Global, out: &mut K) -> Status
     ensures { ToldCase (K.written out.old) (K.written out.new) (K.faults out.old) (K.faults out.new) result }
 {
-    let Ok(rows) = unwritten_rows(alloc) else {
+    let Ok(text) = write_fault_text(alloc) else {
         return Status::NoMemory;
     };
-    match print(alloc, out, rows.as_slice()) {
+    match print(out, &text) {
         Ok(()) => Status::WriteFault,
         Err(OutFault::Failed) => Status::WriteFault,
         Err(OutFault::NoMemory) => Status::NoMemory,
     }
-}
-
-fn unwritten_rows(alloc: Global) -> Result<Rows, NoMemory>
-    ensures { IfOk result (λ rows. rows ≡ write_fault_row ∷ []) }
-{
-    let mut rows = List::new(alloc);
-    rows.push(row_of(alloc, &["write fault", file_text(FileWord::Cert)])?)?;
-    Ok(rows)
-}
-
-fn fault_rows(alloc: Global, file: FileWord) -> Result<Rows, NoMemory>
-    ensures { IfOk result (λ rows. rows ≡ fault_row file ∷ []) }
-{
-    let mut rows = List::new(alloc);
-    rows.push(row_of(alloc, &["read fault", file_text(file)])?)?;
-    Ok(rows)
 }

@@ -13,11 +13,15 @@ returns-in_ok-done_of-in-Ok-clause-case g c =
     let few = c.in_ok-done_of-in-Ok.ensures.few in
     let counted : after ≡ before + (after - before) = omega (arith, later) in
     let small : after - before ≤ MOST_FILLED = omega (arith, few) in
-    (case.0, (after - before, counted, done_answer c.args.words.now (g.S.Shelf.held c.args.shelf.now) c.in_ok-done_of-in-Ok.field-0.ending c.in_ok-done_of-in-Ok.field-0.rows (after - before) (bytes_in c.in_ok-done_of-in-Ok.field-0.cert) c.in-Ok.task case.2 case.3 small c.in_ok-done_of-in-Ok.ensures.done))
+    let done = c.in_ok-done_of-in-Ok.ensures.done in
+    let answer = c.in_ok-done_of-in-Ok.field-0 in
+    (case.0, (after - before, counted, (done.0, done.1, done_answer c.args.words.now (g.S.Shelf.held c.args.shelf.now) answer.ending done.0 (after - before) (bytes_in answer.cert) c.in-Ok.task case.2 case.3 small done.2)))
 
 pub returns-in_ok-refusal_of-in-Err-Stop-clause-case : goal.returns-in_ok-refusal_of-in-Err-Stop-clause-case
 returns-in_ok-refusal_of-in-Err-Stop-clause-case g c =
     let case = rw c.in-Err-Stop.field-0-is at c.in-Err-Stop.ensures.case in
     let before : ℕ = c.args.steps.now in
     let counted : before ≡ before + 0 = omega arith in
-    (case.0, (0, counted, refused_answer c.args.words.now (g.S.Shelf.held c.args.shelf.now) c.in_ok-refusal_of-in-Err-Stop.field-0.ending c.in_ok-refusal_of-in-Err-Stop.field-0.rows 0 (bytes_in c.in_ok-refusal_of-in-Err-Stop.field-0.cert) c.in-Err-Stop.stop case.1 case.2 c.in_ok-refusal_of-in-Err-Stop.ensures))
+    let refused = c.in_ok-refusal_of-in-Err-Stop.ensures in
+    let answer = c.in_ok-refusal_of-in-Err-Stop.field-0 in
+    (case.0, (0, counted, (refused.0, refused.1, refused_answer c.args.words.now (g.S.Shelf.held c.args.shelf.now) answer.ending refused.0 0 (bytes_in answer.cert) c.in-Err-Stop.stop case.1 case.2 refused.2)))

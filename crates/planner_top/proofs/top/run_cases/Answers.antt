@@ -1,8 +1,9 @@
 use Rattle.std.proofs.Common.{ℕ, List, Option, ◌∙◌, subst}
 use Rattle.gsm_outside.specs.Held.{Held}
-use Rattle.planner_top.specs.Asked.{cert_name}
+use Rattle.command_words.specs.Asked.{cert_name}
 use Rattle.planner_top.specs.Certificates.{bytes_in}
-use Rattle.planner_top.specs.Runs.{run_of, given_of, GivenCase}
+use Rattle.planner_top.specs.Runs.{run_of}
+use Rattle.planner_top.specs.StatusCases.{given_of, GivenCase}
 use Rattle.planner_top.proofs.StatusFacts.{given_case, fault_case}
 use Rattle.planner_top.proofs.top.run_cases.Goals as goal
 
@@ -17,11 +18,11 @@ returns-in-Ok-clause-case g c =
     let asked : Option (List ℕ) = cert_name c.args.words.now in
     let run = run_of c.args.words.now (g.S.Shelf.held shelf) (g.S.Shelf.held after) (g.S.Shelf.read_faults shelf) (g.S.Shelf.read_faults after) (g.S.Shelf.write_faults shelf) (g.S.Shelf.write_faults after) (g.K.Sink.written out) (g.K.Sink.written out_after) (g.K.Sink.faults out) (g.K.Sink.faults out_after) c.args.steps.now c.answer_of.new.steps c.give.result in
     let by : Option (List ℕ) → Option Held → ℕ → Type 0 = λ name held writes.
-    GivenCase (given_of c.in-Ok.answer.ending c.in-Ok.answer.rows name (bytes_in c.in-Ok.answer.cert) held (g.S.Shelf.held after) writes (g.S.Shelf.write_faults after) (g.K.Sink.written out) (g.K.Sink.written out_after) (g.K.Sink.faults out) (g.K.Sink.faults out_after)) c.give.result in
+    GivenCase (given_of c.in-Ok.answer.ending c.in-Ok.answer.text name (bytes_in c.in-Ok.answer.cert) held (g.S.Shelf.held after) writes (g.S.Shelf.write_faults after) (g.K.Sink.written out) (g.K.Sink.written out_after) (g.K.Sink.faults out) (g.K.Sink.faults out_after)) c.give.result in
     let named : by asked (g.S.Shelf.held middle) (g.S.Shelf.write_faults middle) = subst (λ (name : Option (List ℕ)). by name (g.S.Shelf.held middle) (g.S.Shelf.write_faults middle)) c.cert_name.ensures c.give.ensures.case in
     let held : by asked (g.S.Shelf.held shelf) (g.S.Shelf.write_faults middle) = subst (λ (held : Option Held). by asked held (g.S.Shelf.write_faults middle)) c.answer_of.ensures.held named in
     let given : by asked (g.S.Shelf.held shelf) (g.S.Shelf.write_faults shelf) = subst (λ (writes : ℕ). by asked (g.S.Shelf.held shelf) writes) c.answer_of.ensures.writes held in
-    given_case run c.in-Ok.answer.ending c.in-Ok.answer.rows (bytes_in c.in-Ok.answer.cert) case.1.0 c.give.result (c.give.ensures.reads ∙ case.0) case.1.1 case.1.2 given
+    given_case run c.in-Ok.answer.ending case.1.2.0 c.in-Ok.answer.text (bytes_in c.in-Ok.answer.cert) case.1.0 c.give.result case.1.2.1 (c.give.ensures.reads ∙ case.0) case.1.1 case.1.2.2 given
 
 pub returns-in-Err-Fault-clause-case : goal.returns-in-Err-Fault-clause-case
 returns-in-Err-Fault-clause-case g c =

@@ -1,0 +1,137 @@
+// The commands with their keys: what may stand on a command line.
+ghost use Rattle.std.specs.Prelude.{◌≡◌};
+ghost use Rattle.command_words.specs.Commands.{command_named, required_keys, further_keys, key_text, value_kind, file_key, further_file, written_file, IsReadable};
+
+use crate::file_word::FileWord;
+use service_model::MAX_HORIZON;
+use service_model::cert_rules::MAX_BUDGET;
+
+/// What the first word asks for.
+#[derive(Clone, Copy, Debug, PartialEq, Eq)]
+pub enum Command {
+    /// The least plan of a network.
+    Solve,
+    /// What a plan costs, or which rule it breaks.
+    Audit,
+    /// Whether a certificate is accepted, or which rule fails on it.
+    Check,
+}
+
+/// A key of a command. Two keys of different commands may have one text.
+#[derive(Clone, Copy, Debug, PartialEq, Eq)]
+pub enum Key {
+    Stages,
+    Tables,
+    Arcs,
+    Horizon,
+    /// The budget of ranges.
+    Ranges,
+    Plan,
+    Cert,
+}
+
+/// What the value behind a key may be.
+#[derive(Clone, Copy, Debug, PartialEq, Eq)]
+pub enum ValueKind {
+    /// A file's name, which is not empty.
+    FileName,
+    /// A whole number from the first to the second.
+    WholeNumber(u64, u64),
+}
+
+/// The command that a word names.
+pub fn command_named(word: &str) -> Option<Command>
+    ensures { result ≡ command_named word.now }
+{
+    if word.as_bytes() == b"solve".as_slice() {
+        Some(Command::Solve)
+    } else if word.as_bytes() == b"audit".as_slice() {
+        Some(Command::Audit)
+    } else if word.as_bytes() == b"check".as_slice() {
+        Some(Command::Check)
+    } else {
+        None
+    }
+}
+
+/// The keys that a command requires, in the order in which a missing one is looked for.
+pub fn required_keys(command: Command) -> &'static [Key]
+    ensures { result.now ≡ required_keys command }
+{
+    match command {
+        Command::Solve => &[Key::Stages, Key::Tables, Key::Arcs, Key::Horizon],
+        Command::Audit => &[Key::Stages, Key::Tables, Key::Arcs, Key::Horizon, Key::Plan],
+        Command::Check => &[Key::Stages, Key::Tables, Key::Arcs, Key::Horizon, Key::Cert],
+    }
+}
+
+/// The keys that a command takes beside those that it requires.
+pub fn further_keys(command: Command) -> &'static [Key]
+    ensures { result.now ≡ further_keys command }
+{
+    match command {
+        Command::Solve => &[Key::Ranges, Key::Cert],
+        Command::Audit | Command::Check => &[],
+    }
+}
+
+/// The text of a key, which stands before the `=`.
+pub fn key_text(key: Key) -> &'static str
+    ensures { result.now ≡ key_text key }
+{
+    match key {
+        Key::Stages => "stages",
+        Key::Tables => "tables",
+        Key::Arcs => "arcs",
+        Key::Horizon => "horizon",
+        Key::Ranges => "ranges",
+        Key::Plan => "plan",
+        Key::Cert => "cert",
+    }
+}
+
+/// What a key's value may be.
+pub fn value_kind(key: Key) -> ValueKind
+    ensures value { result ≡ value_kind key }
+    ensures within { IsReadable result }
+{
+    match key {
+        Key::Stages | Key::Tables | Key::Arcs | Key::Plan | Key::Cert => ValueKind::FileName,
+        Key::Horizon => ValueKind::WholeNumber(0, MAX_HORIZON as u64),
+        Key::Ranges => ValueKind::WholeNumber(1, MAX_BUDGET as u64),
+    }
+}
+
+/// The key of the word that names a file.
+pub fn file_key(file: FileWord) -> Key
+    ensures { result ≡ file_key file }
+{
+    match file {
+        FileWord::Stages => Key::Stages,
+        FileWord::Tables => Key::Tables,
+        FileWord::Arcs => Key::Arcs,
+        FileWord::Plan => Key::Plan,
+        FileWord::Cert => Key::Cert,
+    }
+}
+
+/// The file that a command reads behind the three of its network.
+pub fn further_file(command: Command) -> Option<FileWord>
+    ensures { result ≡ further_file command }
+{
+    match command {
+        Command::Solve => None,
+        Command::Audit => Some(FileWord::Plan),
+        Command::Check => Some(FileWord::Cert),
+    }
+}
+
+/// The file that a command writes where its key is given.
+pub fn written_file(command: Command) -> Option<FileWord>
+    ensures { result ≡ written_file command }
+{
+    match command {
+        Command::Solve => Some(FileWord::Cert),
+        Command::Audit | Command::Check => None,
+    }
+}

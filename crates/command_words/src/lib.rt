@@ -1,0 +1,20 @@
+//! The words of a command line: the commands with their keys, the rules on words, and what the words ask for.
+#![tactic(auto)]
+
+mod asked;
+mod command;
+mod file_word;
+mod request;
+#[cfg(test)]
+mod tests;
+mod word_fault;
+pub mod word_rules;
+mod word_tests;
+mod words;
+
+pub use asked::Request;
+pub use command::{Command, further_file};
+pub use file_word::FileWord;
+pub use request::{cert_name, request_of};
+pub use word_fault::WordFault;
+pub use words::Words;

@@ -1,0 +1,100 @@
+use super::*;
+use crate::word_rules::*;
+use std::alloc::Global;
+use std::test::Fail;
+
+fn words_of(alloc: Global, all: &[&str]) -> Result<Words, Fail> {
+    let mut words = Words::new(alloc);
+    for word in all {
+        words.push(word)?;
+    }
+    Ok(words)
+}
+
+// Words, the first rule that fails on them, and the number of the word at fault.
+const CASES: [(&[&str], u8, u64); 19] = [
+    (&[], NO_WORD, 0),
+    (&["--help"], NO_COMMAND, 1),
+    (&["solve", "stages=s"], MISSING_KEY, 2),
+    (&["solve", "horizon=5", "arcs=a"], MISSING_KEY, 1),
+    (&["solve", "stages=s", "stages=t"], KEY_TWICE, 3),
+    (&["solve", "stages"], NO_EQUALS, 2),
+    (&["solve", "stages=s", "script=c"], UNKNOWN_KEY, 3),
+    (
+        &[
+            "solve",
+            "cert=t",
+            "stages=s",
+            "tables=t",
+            "arcs=a",
+            "horizon=2",
+        ],
+        NAME_REUSED,
+        0,
+    ),
+    (&["solve", "=s"], UNKNOWN_KEY, 2),
+    (&["solve", "stages="], BAD_VALUE, 2),
+    (
+        &["solve", "stages=s", "tables=t", "arcs=a", "horizon=auto"],
+        BAD_VALUE,
+        5,
+    ),
+    (&["solve", "plan=p"], UNKNOWN_KEY, 2),
+    (
+        &["audit", "stages=s", "tables=t", "arcs=a", "horizon=2"],
+        MISSING_KEY,
+        5,
+    ),
+    (
+        &["check", "stages=s", "tables=t", "arcs=a", "horizon=2"],
+        MISSING_KEY,
+        5,
+    ),
+    (&["solve", "horizon=401"], BAD_VALUE, 2),
+    (&["solve", "horizon=5.0"], BAD_VALUE, 2),
+    (&["solve", "ranges=0"], BAD_VALUE, 2),
+    (&["solve", "ranges=10001"], BAD_VALUE, 2),
+    (&["audit", "ranges=5"], UNKNOWN_KEY, 2),
+];
+
+#[test]
+fn each_rule_on_words_has_its_place(rt: HostRuntime) -> Result<(), Fail> {
+    let alloc = rt.alloc();
+    for (all, rule, place) in CASES {
+        let words = words_of(alloc, all)?;
+        assert_eq!(rt; request_of(&words).err(), Some(WordFault { rule, place }));
+    }
+    Ok(())
+}
+
+#[test]
+fn keys_come_in_any_order_and_names_may_have_equals_signs(rt: HostRuntime) -> Result<(), Fail> {
+    let alloc = rt.alloc();
+    let words = words_of(
+        alloc,
+        &[
+            "solve",
+            "horizon= 010 ",
+            "arcs=a",
+            "ranges=7",
+            "stages=s=1",
+            "cert=c",
+            "tables=t",
+        ],
+    )?;
+    let Ok(request) = request_of(&words) else {
+        return Err("a rule on the words fails".into());
+    };
+    let files = [
+        request.stages,
+        request.tables,
+        request.arcs,
+        request.further,
+    ];
+    assert_eq!(rt; files, ["s=1", "t", "a", ""]);
+    let others = (request.command, request.horizon, request.ranges);
+    assert_eq!(rt; others, (Command::Solve, 10, Some(7)));
+    assert_eq!(rt; (request.cert, cert_name(&words)), (Some("c"), Some("c")));
+    assert_eq!(rt; further_file(request.command), None);
+    Ok(())
+}

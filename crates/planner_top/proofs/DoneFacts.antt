@@ -1,0 +1,52 @@
+-- What the answers of the commands say, by their texts.
+use Rattle.std.proofs.Common.{◌≡◌, ◌-◌, ℕ, List, [], ◌∷◌, Option, Some, None, Result, Ok, Err, refl, ap, ◌∙◌, arith}
+use Rattle.std.specs.Prelude.{IfOk}
+use Rattle.service_model.specs.declared.plan.Plan.{Plan}
+use Rattle.service_model.specs.declared.breaks.Break.{Break}
+use Rattle.service_model.specs.declared.cert.Verdict.{Verdict}
+use Rattle.service_model.specs.Plans.{Feasible}
+use Rattle.service_model.specs.Breaks.{first_break_of}
+use Rattle.service_model.specs.Verdicts.{IsTrueOf}
+use Rattle.cert_check.specs.Bytes.{IsAcceptedBytes, IsRefusedBytes}
+use Rattle.network_check.specs.declared.checked.Checked.{Checked}
+use Rattle.stock_report.specs.Lines.{lines_of}
+use Rattle.stock_report.specs.Outcomes.{valid_row, not_accepted_row}
+use Rattle.stock_report.specs.Audits.{audit_rows, broken_row, audited_by, audited_rows}
+use Rattle.planner_top.specs.declared.answer.Answer.{Answer}
+use Rattle.planner_top.specs.declared.answer.Ending.TheVariants as ending
+use Rattle.planner_top.specs.declared.task.Task.TheVariants as task
+use Rattle.planner_top.specs.Certificates.{bytes_in}
+use Rattle.planner_top.specs.Done.{IsAudit, IsCheck, IsDone}
+use Rattle.planner_top.specs.Answers.{IsTextOf}
+
+-- a plan that breaks no rule
+pub audit_done : (c : Checked) (p : Plan) (text : List ℕ) → first_break_of c.network p ≡ None → Feasible c.network p → text ≡ lines_of (audited_rows c p) → IsTextOf text (λ rows. IsAudit ending.Done rows c p)
+audit_done c p text none feasible told = (audit_rows c p, told ∙ ap (λ (o : Option Break). lines_of (audited_by c p o)) none, (feasible, refl))
+
+-- one that breaks a rule
+pub audit_broken : (c : Checked) (p : Plan) (b : Break) (text : List ℕ) → first_break_of c.network p ≡ Some b → (¬ Feasible c.network p) → text ≡ lines_of (audited_rows c p) → IsTextOf text (λ rows. IsAudit ending.NotFeasible rows c p)
+audit_broken c p b text some not told = (broken_row c b ∷ [], told ∙ ap (λ (o : Option Break). lines_of (audited_by c p o)) some, (not, (b, some, refl)))
+
+-- a certificate that is accepted
+pub check_done : (c : Checked) (bytes text : List ℕ) (v : Verdict) → IsAcceptedBytes c.network bytes v → IsTrueOf c.network v → text ≡ lines_of (valid_row c.network v ∷ []) → IsTextOf text (λ rows. IsCheck ending.Done rows c bytes)
+check_done c bytes text v accepted true_verdict told = (valid_row c.network v ∷ [], told, (v, accepted, true_verdict, refl))
+
+-- one on which a rule fails
+pub check_refused : (c : Checked) (bytes text : List ℕ) (line rule : ℕ) → IsRefusedBytes c.network bytes line rule → text ≡ lines_of (not_accepted_row line rule ∷ []) → IsTextOf text (λ rows. IsCheck ending.NotAccepted rows c bytes)
+check_refused c bytes text line rule refused told = (not_accepted_row line rule ∷ [], told, (line, rule, refused, refl))
+
+-- no table is filled where the count stays
+pub none_filled : (n : ℕ) → n - n ≡ 0
+none_filled n = omega arith
+
+-- an audit is a task that is done
+pub audited : {E : Type 0} (r : Result Answer E) (c : Checked) (p : Plan) (filled : ℕ) → filled ≡ 0 → IfOk r (λ a. IsTextOf a.text (λ rows. IsAudit a.ending rows c p)) → IfOk r (λ a. a.cert ≡ None)
+    → IfOk r (λ a. IsTextOf a.text (λ rows. IsDone a.ending rows filled (bytes_in a.cert) (task.Audit c p)))
+audited (Ok a) c p filled none audit cert = (audit.0, audit.1, (audit.2, none, ap bytes_in cert))
+audited (Err e) c p filled none audit cert = tt
+
+-- and so is a check
+pub checked : {E : Type 0} (r : Result Answer E) (c : Checked) (bytes : List ℕ) (filled : ℕ) → filled ≡ 0 → IfOk r (λ a. IsTextOf a.text (λ rows. IsCheck a.ending rows c bytes)) → IfOk r (λ a. a.cert ≡ None)
+    → IfOk r (λ a. IsTextOf a.text (λ rows. IsDone a.ending rows filled (bytes_in a.cert) (task.Check c bytes)))
+checked (Ok a) c bytes filled none check cert = (check.0, check.1, (check.2, none, ap bytes_in cert))
+checked (Err e) c bytes filled none check cert = tt

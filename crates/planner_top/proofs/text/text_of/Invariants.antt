@@ -1,6 +1,0 @@
-use Rattle.std.proofs.Common.{◌≡◌, take}
-use Rattle.planner_top.specs.Texts.{lines_of}
-use Rattle.planner_top.proofs.text.text_of.Given as goal
-
-abbrev pub invariant-rows : goal.invariant-rows
-invariant-rows l = l.text.items ≡ lines_of (take l.row-index l.rows)

@@ -1,0 +1,2 @@
+mod BreakFacts
+mod ReportFacts

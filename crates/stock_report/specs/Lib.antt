@@ -1,0 +1,6 @@
+pub mod Lines
+pub mod Reports
+pub mod Outcomes
+pub mod Answers
+pub mod Audits
+pub mod Refusals
