@@ -1,1 +1,2 @@
+mod NameFacts
 pub mod WordFacts

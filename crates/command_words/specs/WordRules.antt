@@ -32,9 +32,9 @@ later_fault_at command later k = option_map (fault_at (k + 2)) (first_of (later_
 abbrev pub missing_fault : Command → List (List ℕ) → Option WordFault
 missing_fault command later = option_map (λ k. fault_at (k + 1) MISSING_KEY) (position (is_missing later) (required_keys command))
 
--- the file that a command writes has the name of one that it reads
+-- what a command writes would take the name of a file that it reads
 abbrev pub reuse_fault : Command → List (List ℕ) → Option WordFault
-reuse_fault command later = if is_reused (written_file command) later then Some (fault_at 0 NAME_REUSED) else None
+reuse_fault command later = if is_reused command (written_file command) later then Some (fault_at 0 NAME_REUSED) else None
 
 -- the first rule that fails behind a command: on each word in turn, and then on the words together
 abbrev pub command_fault : List (List ℕ) → Option Command → Option WordFault

@@ -9,7 +9,8 @@ use Rattle.command_words.specs.declared.command.Key.TheVariants.{Stages, Tables,
 use Rattle.command_words.specs.declared.command.ValueKind.{ValueKind}
 use Rattle.command_words.specs.declared.command.ValueKind.TheVariants.{FileName, WholeNumber}
 use Rattle.command_words.specs.declared.file_word.FileWord.{FileWord}
-use Rattle.command_words.specs.Commands.{required_keys, further_keys, key_text, value_kind, file_key}
+use Rattle.command_words.specs.Commands.{required_keys, further_keys, key_text, value_kind, file_key, further_file}
+use Rattle.command_words.specs.Names.{naming, is_kept}
 
 -- the bytes of words
 abbrev pub texts : {Z : Type 0} → List (String Z) → List (List ℕ)
@@ -76,15 +77,24 @@ is_bad_value command word = refuses (key_named command (key_in word)) (value_in 
 unfoldable pub is_missing : List (List ℕ) → Key → Bool
 is_missing words key = not (has_key words (key_text key))
 
--- the value at a key is that name
-unfoldable pub is_named_at : Key → List (List ℕ) → List ℕ → Bool
-is_named_at key later name = bytes_eq (value_at key later) name
+-- the name at a key is kept for what a command writes under a name
+unfoldable pub is_kept_at : Command → Key → List (List ℕ) → List ℕ → Bool
+is_kept_at command key later name = is_kept (naming command) name (value_at key later)
 
--- one of the three files of a network has that name
-unfoldable pub is_read : List (List ℕ) → List ℕ → Bool
-is_read later name = is_named_at Stages later name || is_named_at Tables later name || is_named_at Arcs later name
+-- a command's further file, if it has one, has such a name
+unfoldable pub is_further_kept : Command → Option FileWord → List (List ℕ) → List ℕ → Bool
+is_further_kept command None later name = false
+is_further_kept command (Some word) later name = is_kept_at command (file_key word) later name
 
--- a file that is written, where its key is given, has the name of one that is read
-unfoldable pub is_reused : Option FileWord → List (List ℕ) → Bool
-is_reused None later = false
-is_reused (Some word) later = has_key later (key_text (file_key word)) && is_read later (value_at (file_key word) later)
+-- a file that a command reads, one of the three of a network or its further file, has such a name
+unfoldable pub is_read : Command → List (List ℕ) → List ℕ → Bool
+is_read command later name =
+    is_kept_at command Stages later name
+    || is_kept_at command Tables later name
+    || is_kept_at command Arcs later name
+    || is_further_kept command (further_file command) later name
+
+-- a name under which a command writes, where its key is given, keeps that of a file that it reads
+unfoldable pub is_reused : Command → Option FileWord → List (List ℕ) → Bool
+is_reused command None later = false
+is_reused command (Some word) later = has_key later (key_text (file_key word)) && is_read command later (value_at (file_key word) later)

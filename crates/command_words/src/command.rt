@@ -11,6 +11,8 @@ use service_model::cert_rules::MAX_BUDGET;
 pub enum Command {
     /// The least plan of a network.
     Solve,
+    /// The least plan again and again, while the network is edited by a script.
+    Session,
     /// What a plan costs, or which rule it breaks.
     Audit,
     /// Whether a certificate is accepted, or which rule fails on it.
@@ -26,6 +28,8 @@ pub enum Key {
     Horizon,
     /// The budget of ranges.
     Ranges,
+    /// The edits of a session.
+    Script,
     Plan,
     Cert,
 }
@@ -45,6 +49,8 @@ pub fn command_named(word: &str) -> Option<Command>
 {
     if word.as_bytes() == b"solve".as_slice() {
         Some(Command::Solve)
+    } else if word.as_bytes() == b"session".as_slice() {
+        Some(Command::Session)
     } else if word.as_bytes() == b"audit".as_slice() {
         Some(Command::Audit)
     } else if word.as_bytes() == b"check".as_slice() {
@@ -60,6 +66,13 @@ pub fn required_keys(command: Command) -> &'static [Key]
 {
     match command {
         Command::Solve => &[Key::Stages, Key::Tables, Key::Arcs, Key::Horizon],
+        Command::Session => &[
+            Key::Stages,
+            Key::Tables,
+            Key::Arcs,
+            Key::Horizon,
+            Key::Script,
+        ],
         Command::Audit => &[Key::Stages, Key::Tables, Key::Arcs, Key::Horizon, Key::Plan],
         Command::Check => &[Key::Stages, Key::Tables, Key::Arcs, Key::Horizon, Key::Cert],
     }
@@ -70,7 +83,7 @@ pub fn further_keys(command: Command) -> &'static [Key]
     ensures { result.now ≡ further_keys command }
 {
     match command {
-        Command::Solve => &[Key::Ranges, Key::Cert],
+        Command::Solve | Command::Session => &[Key::Ranges, Key::Cert],
         Command::Audit | Command::Check => &[],
     }
 }
@@ -85,6 +98,7 @@ pub fn key_text(key: Key) -> &'static str
         Key::Arcs => "arcs",
         Key::Horizon => "horizon",
         Key::Ranges => "ranges",
+        Key::Script => "script",
         Key::Plan => "plan",
         Key::Cert => "cert",
     }
@@ -96,7 +110,9 @@ pub fn value_kind(key: Key) -> ValueKind
     ensures within { IsReadable result }
 {
     match key {
-        Key::Stages | Key::Tables | Key::Arcs | Key::Plan | Key::Cert => ValueKind::FileName,
+        Key::Stages | Key::Tables | Key::Arcs | Key::Script | Key::Plan | Key::Cert => {
+            ValueKind::FileName
+        }
         Key::Horizon => ValueKind::WholeNumber(0, MAX_HORIZON as u64),
         Key::Ranges => ValueKind::WholeNumber(1, MAX_BUDGET as u64),
     }
@@ -110,6 +126,7 @@ pub fn file_key(file: FileWord) -> Key
         FileWord::Stages => Key::Stages,
         FileWord::Tables => Key::Tables,
         FileWord::Arcs => Key::Arcs,
+        FileWord::Script => Key::Script,
         FileWord::Plan => Key::Plan,
         FileWord::Cert => Key::Cert,
     }
@@ -121,17 +138,18 @@ pub fn further_file(command: Command) -> Option<FileWord>
 {
     match command {
         Command::Solve => None,
+        Command::Session => Some(FileWord::Script),
         Command::Audit => Some(FileWord::Plan),
         Command::Check => Some(FileWord::Cert),
     }
 }
 
-/// The file that a command writes where its key is given.
+/// The word of the files that a command writes where its key is given.
 pub fn written_file(command: Command) -> Option<FileWord>
     ensures { result ≡ written_file command }
 {
     match command {
-        Command::Solve => Some(FileWord::Cert),
+        Command::Solve | Command::Session => Some(FileWord::Cert),
         Command::Audit | Command::Check => None,
     }
 }

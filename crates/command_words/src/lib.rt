@@ -4,6 +4,7 @@
 mod asked;
 mod command;
 mod file_word;
+mod names;
 mod request;
 #[cfg(test)]
 mod tests;
@@ -14,7 +15,8 @@ mod words;
 
 pub use asked::Request;
 pub use command::{Command, further_file};
-pub use file_word::FileWord;
+pub use file_word::{FileWord, Naming};
+pub use names::{answer_name, naming};
 pub use request::{cert_name, request_of};
 pub use word_fault::WordFault;
 pub use words::Words;

@@ -67,6 +67,58 @@ fn each_rule_on_words_has_its_place(rt: HostRuntime) -> Result<(), Fail> {
     Ok(())
 }
 
+// Words behind those that each session has, the first rule that fails on them all, if one does, and the number of the word at fault.
+const SESSION_CASES: [(&[&str], Option<(u8, u64)>); 9] = [
+    (&[], Some((MISSING_KEY, 5))),
+    (&["script"], Some((NO_EQUALS, 6))),
+    (&["script=e", "plan=p"], Some((UNKNOWN_KEY, 7))),
+    (&["script=e", "script=f"], Some((KEY_TWICE, 7))),
+    (&["script="], Some((BAD_VALUE, 6))),
+    (&["script=c-1", "cert=c"], Some((NAME_REUSED, 0))),
+    (&["cert=c", "script=c-notes"], Some((NAME_REUSED, 0))),
+    (&["script=c", "cert=c"], None),
+    (&["script=e", "cert=s"], None),
+];
+
+fn session_with(alloc: Global, further: &[&str]) -> Result<Words, Fail> {
+    let mut words = words_of(
+        alloc,
+        &["session", "stages=s", "tables=t", "arcs=a", "horizon=2"],
+    )?;
+    for word in further {
+        words.push(word)?;
+    }
+    Ok(words)
+}
+
+#[test]
+fn a_session_writes_no_answer_over_a_file_that_it_reads(rt: HostRuntime) -> Result<(), Fail> {
+    let alloc = rt.alloc();
+    for (further, fault) in SESSION_CASES {
+        let words = session_with(alloc, further)?;
+        let told = fault.map(|(rule, place)| WordFault { rule, place });
+        assert_eq!(rt; request_of(&words).err(), told);
+    }
+    Ok(())
+}
+
+#[test]
+fn a_session_numbers_its_answers(rt: HostRuntime) -> Result<(), Fail> {
+    let alloc = rt.alloc();
+    let words = session_with(alloc, &["cert=c", "script=e", "ranges=7"])?;
+    let Ok(request) = request_of(&words) else {
+        return Err("a rule on the words fails".into());
+    };
+    let asked = (request.command, request.further, request.cert);
+    assert_eq!(rt; asked, (Command::Session, "e", Some("c")));
+    assert_eq!(rt; request.ranges, Some(7));
+    assert_eq!(rt; further_file(request.command), Some(FileWord::Script));
+    let file = answer_name(alloc, naming(request.command), "c", 12)?;
+    let whole = answer_name(alloc, naming(Command::Solve), "c", 1)?;
+    assert_eq!(rt; (file.as_str(), whole.as_str()), ("c-12", "c"));
+    Ok(())
+}
+
 #[test]
 fn keys_come_in_any_order_and_names_may_have_equals_signs(rt: HostRuntime) -> Result<(), Fail> {
     let alloc = rt.alloc();

@@ -94,11 +94,11 @@ fn is_missing(later: &[String], key: Key) -> bool
     !has_key(later, key_text(key))
 }
 
-// The file that the command writes has the name of one that it reads.
+// What the command writes would take the name of a file that it reads.
 fn reuse_fault(command: Command, later: &[String]) -> Option<WordFault>
     ensures { result ≡ reuse_fault command (texts later.now) }
 {
-    if is_reused(written_file(command), later) {
+    if is_reused(command, written_file(command), later) {
         fault_at(0, NAME_REUSED)
     } else {
         None

@@ -14,5 +14,6 @@ pub const KEY_TWICE: u8 = 5;
 pub const MISSING_KEY: u8 = 6;
 /// The value is not one that the key may have.
 pub const BAD_VALUE: u8 = 7;
-/// The name of a file that is written is also that of one that is read.
+/// The name of a file that is read is kept for what is written: it is the name given for that, or, where what is written is numbered,
+/// begins with it and a dash.
 pub const NAME_REUSED: u8 = 8;

@@ -2,12 +2,14 @@
 ghost use Rattle.std.specs.Prelude.{◌≡◌, find, option_map, string_bytes};
 ghost use Rattle.std.specs.List.{list_any};
 ghost use Rattle.command_words.specs.Commands.{IsReadable};
-ghost use Rattle.command_words.specs.Words.{texts, has_equals, key_in, value_in, is_named, key_among, key_named, is_allowed, is_unknown, is_keyed, has_key, value_at, is_bad_value, is_named_at, is_read, is_reused};
+ghost use Rattle.command_words.specs.Words.{texts, has_equals, key_in, value_in, is_named, key_among, key_named, is_allowed, is_unknown, is_keyed, has_key, value_at, is_bad_value, is_kept_at, is_further_kept, is_read, is_reused};
 
 use crate::command::{
-    Command, Key, ValueKind, file_key, further_keys, key_text, required_keys, value_kind,
+    Command, Key, ValueKind, file_key, further_file, further_keys, key_text, required_keys,
+    value_kind,
 };
 use crate::file_word::FileWord;
+use crate::names::{is_kept, naming};
 use gsm_nums::read_whole;
 
 /// Whether a word has a `=`.
@@ -135,33 +137,45 @@ fn first_keyed<'a>(words: &'a [String], text: &str) -> Option<&'a String>
     words.iter().find(|word| is_keyed(text, word.as_str()))
 }
 
-// Whether the value at a key is that name.
-#[tactic(auto, unfolding(crate::specs::Words::is_named_at))]
-fn is_named_at(key: Key, later: &[String], name: &str) -> bool
-    ensures { result ≡ is_named_at key (texts later.now) name.now }
+// Whether the name at a key is kept for what a command writes under a name.
+#[tactic(auto, unfolding(crate::specs::Words::is_kept_at))]
+fn is_kept_at(command: Command, key: Key, later: &[String], name: &str) -> bool
+    ensures { result ≡ is_kept_at command key (texts later.now) name.now }
 {
-    value_at(key, later).as_bytes() == name.as_bytes()
+    is_kept(naming(command), name, value_at(key, later))
 }
 
-// Whether one of the three files of a network has that name.
+// Whether a command's further file has such a name.
+#[tactic(auto, unfolding(crate::specs::Words::is_further_kept))]
+fn is_further_kept(command: Command, file: Option<FileWord>, later: &[String], name: &str) -> bool
+    ensures { result ≡ is_further_kept command file (texts later.now) name.now }
+{
+    match file {
+        Some(file) => is_kept_at(command, file_key(file), later, name),
+        None => false,
+    }
+}
+
+// Whether a file that a command reads has such a name.
 #[tactic(auto, unfolding(crate::specs::Words::is_read))]
-fn is_read(later: &[String], name: &str) -> bool
-    ensures { result ≡ is_read (texts later.now) name.now }
+fn is_read(command: Command, later: &[String], name: &str) -> bool
+    ensures { result ≡ is_read command (texts later.now) name.now }
 {
-    is_named_at(Key::Stages, later, name)
-        || is_named_at(Key::Tables, later, name)
-        || is_named_at(Key::Arcs, later, name)
+    is_kept_at(command, Key::Stages, later, name)
+        || is_kept_at(command, Key::Tables, later, name)
+        || is_kept_at(command, Key::Arcs, later, name)
+        || is_further_kept(command, further_file(command), later, name)
 }
 
-/// Whether a file that is written, where its key is given, has the name of one that is read.
+/// Whether a name under which a command writes, where its key is given, keeps that of a file that it reads.
 #[tactic(auto, unfolding(crate::specs::Words::is_reused))]
-pub fn is_reused(file: Option<FileWord>, later: &[String]) -> bool
-    ensures { result ≡ is_reused file (texts later.now) }
+pub fn is_reused(command: Command, file: Option<FileWord>, later: &[String]) -> bool
+    ensures { result ≡ is_reused command file (texts later.now) }
 {
     match file {
         Some(file) => {
             let key = file_key(file);
-            has_key(later, key_text(key)) && is_read(later, value_at(key, later))
+            has_key(later, key_text(key)) && is_read(command, later, value_at(key, later))
         }
         None => false,
     }
