@@ -37,6 +37,7 @@ file_of : (q : Asked) (word : FileWord) → further_file q.command ≡ Some word
 file_of q file.Stages is = tt
 file_of q file.Tables is = tt
 file_of q file.Arcs is = tt
+file_of q file.Script is = is
 file_of q file.Plan is = is
 file_of q file.Cert is = is
 
@@ -45,6 +46,7 @@ none_before q None word short = tt
 none_before q (Some m) file.Stages short = refl
 none_before q (Some m) file.Tables short = short.0
 none_before q (Some m) file.Arcs short = rw (short.0, short.1) refl
+none_before q (Some m) file.Script short = rw (short.0, short.1, short.2) refl
 none_before q (Some m) file.Plan short = rw (short.0, short.1, short.2) refl
 none_before q (Some m) file.Cert short = rw (short.0, short.1, short.2) refl
 

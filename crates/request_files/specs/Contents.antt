@@ -30,6 +30,7 @@ contents_of q held = record {
 
 -- a command reads the file
 abbrev pub IsFileOf : Command → FileWord → Type 0
+IsFileOf command file.Script = further_file command ≡ Some file.Script
 IsFileOf command file.Plan = further_file command ≡ Some file.Plan
 IsFileOf command file.Cert = further_file command ≡ Some file.Cert
 IsFileOf command _ = ⊤

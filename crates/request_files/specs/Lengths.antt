@@ -15,6 +15,7 @@ abbrev pub limit_of : FileWord → ℕ
 limit_of file.Stages = FILE_LIMIT
 limit_of file.Tables = FILE_LIMIT
 limit_of file.Arcs = FILE_LIMIT
+limit_of file.Script = FILE_LIMIT
 limit_of file.Plan = FILE_LIMIT
 limit_of file.Cert = CERT_LIMIT
 
@@ -53,6 +54,7 @@ abbrev pub longer_before : Asked → Held → FileWord → Option FileWord
 longer_before q held file.Stages = None
 longer_before q held file.Tables = long_if file.Stages (file_bytes held q.stages)
 longer_before q held file.Arcs = first_of (long_if file.Stages (file_bytes held q.stages) ∷ long_if file.Tables (file_bytes held q.tables) ∷ [])
+longer_before q held file.Script = longer_in_network q held
 longer_before q held file.Plan = longer_in_network q held
 longer_before q held file.Cert = longer_in_network q held
 

@@ -14,7 +14,7 @@ use service_model::List;
 use stage_file::Text;
 use std::alloc::Global;
 
-/// The most bytes of a stage, table, arc or plan file.
+/// The most bytes of a stage, table, arc, script or plan file.
 pub const FILE_LIMIT: u64 = 16_777_216;
 
 /// The most bytes of a certificate.
@@ -79,7 +79,8 @@ fn limit_of(file: FileWord) -> u64
     ensures within { result ≤ CERT_LIMIT }
 {
     match file {
-        FileWord::Stages | FileWord::Tables | FileWord::Arcs | FileWord::Plan => FILE_LIMIT,
+        FileWord::Stages | FileWord::Tables | FileWord::Arcs => FILE_LIMIT,
+        FileWord::Script | FileWord::Plan => FILE_LIMIT,
         FileWord::Cert => CERT_LIMIT,
     }
 }
