@@ -4,3 +4,4 @@ pub mod Outcomes
 pub mod Answers
 pub mod Audits
 pub mod Refusals
+pub mod Sessions

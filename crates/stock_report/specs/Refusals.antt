@@ -12,6 +12,7 @@ abbrev pub file_text : FileWord → List ℕ
 file_text file.Stages = codes "stages"
 file_text file.Tables = codes "tables"
 file_text file.Arcs = codes "arcs"
+file_text file.Script = codes "script"
 file_text file.Plan = codes "plan"
 file_text file.Cert = codes "cert"
 
@@ -31,10 +32,13 @@ word_row fault = codes "words" ∷ (codes "W" ++ decimal fault.rule) ∷ decimal
 abbrev pub too_long_row : FileWord → List (List ℕ)
 too_long_row word = codes "too long" ∷ file_text word ∷ []
 
--- the rule on files that fails, and its place: the file, the record and the column
+-- a rule on files that fails, and its place: the file, the record and the column
+abbrev pub file_fault_fields : FileFault → List (List ℕ)
+file_fault_fields fault = (codes "F" ++ decimal fault.rule) ∷ kind_text fault.file ∷ decimal fault.row ∷ decimal fault.column ∷ []
+
+-- what is printed where a rule on files fails
 abbrev pub refused_row : FileFault → List (List ℕ)
-refused_row fault =
-    codes "refused" ∷ (codes "F" ++ decimal fault.rule) ∷ kind_text fault.file ∷ decimal fault.row ∷ decimal fault.column ∷ []
+refused_row fault = codes "refused" ∷ file_fault_fields fault
 
 -- what is printed where a file could not be read
 abbrev pub fault_row : FileWord → List (List ℕ)

@@ -7,6 +7,7 @@ mod check;
 mod outcome;
 mod refusal;
 mod report;
+mod session;
 #[cfg(test)]
 mod tests;
 mod text;
@@ -15,3 +16,6 @@ pub use answer::answer_text;
 pub use audit::audit_text;
 pub use check::{not_accepted_text, valid_text};
 pub use refusal::{read_fault_text, refused_text, too_long_text, words_text, write_fault_text};
+pub use session::{
+    edit_done_text, edit_fault_text, edit_refused_text, session_answer_text, session_end_text,
+};

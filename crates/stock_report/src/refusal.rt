@@ -1,8 +1,8 @@
 // What is printed where there is no answer.
-ghost use Rattle.std.specs.Prelude.{◌≡◌, ◌∷◌, [], ◌++◌, IfOk};
+ghost use Rattle.std.specs.Prelude.{◌≡◌, ◌∷◌, [], ◌++◌, IfOk, OnOk};
 ghost use Rattle.std.specs.Fmt.{decimal};
 ghost use Rattle.stock_report.specs.Lines.{lines_of};
-ghost use Rattle.stock_report.specs.Refusals.{word_row, too_long_row, refused_row, fault_row, write_fault_row, kind_text, file_text};
+ghost use Rattle.stock_report.specs.Refusals.{word_row, too_long_row, file_fault_fields, refused_row, fault_row, write_fault_row, kind_text, file_text};
 
 use crate::text::{number, numbered, row_of, text_of_row};
 use command_words::{FileWord, WordFault};
@@ -40,11 +40,19 @@ fn refused_row(alloc: Global, fault: FileFault) -> Result<Row, NoMemory>
     ensures { IfOk result (λ row. row ≡ refused_row fault) }
 {
     let mut row = row_of(alloc, &["refused"])?;
+    push_file_fault(alloc, fault, &mut row)?;
+    Ok(row)
+}
+
+/// Puts a rule on files that fails behind a row, with its place.
+pub fn push_file_fault(alloc: Global, fault: FileFault, row: &mut Row) -> Result<(), NoMemory>
+    ensures { OnOk result (row.new ≡ row.old ++ file_fault_fields fault) }
+{
     row.push(numbered(alloc, b"F", fault.rule as u64)?)?;
     row.push(List::copied(alloc, kind_text(fault.file).as_bytes())?)?;
     row.push(number(alloc, fault.row as u64)?)?;
     row.push(number(alloc, fault.column as u64)?)?;
-    Ok(row)
+    Ok(())
 }
 
 /// What is printed where a file could not be read.
@@ -95,6 +103,7 @@ fn file_text(file: FileWord) -> &'static str
         FileWord::Stages => "stages",
         FileWord::Tables => "tables",
         FileWord::Arcs => "arcs",
+        FileWord::Script => "script",
         FileWord::Plan => "plan",
         FileWord::Cert => "cert",
     }

@@ -164,10 +164,67 @@ fn what_is_refused_is_told_in_one_line(rt: HostRuntime) -> Result<(), Fail> {
         is(words_text(alloc, words), "words,W4,3\n"),
         is(refused_text(alloc, refused), "refused,F18,plan,5,1\n"),
         is(too_long_text(alloc, FileWord::Stages), "too long,stages\n"),
+        is(too_long_text(alloc, FileWord::Script), "too long,script\n"),
         is(read_fault_text(alloc, FileWord::Arcs), "read fault,arcs\n"),
         is(write_fault_text(alloc), "write fault,cert\n"),
         is(not_accepted_text(alloc, 5, 13), "not accepted,5,K13\n"),
     ];
-    assert_eq!(rt; told, [true; 6]);
+    assert_eq!(rt; told, [true; 7]);
+    Ok(())
+}
+
+#[test]
+fn each_edit_of_a_session_has_its_line(rt: HostRuntime) -> Result<(), Fail> {
+    let alloc = rt.alloc();
+    let refused = FileFault {
+        file: FileKind::Stages,
+        row: 2,
+        rule: 20,
+        column: 1,
+    };
+    let told = [
+        is(edit_done_text(alloc, 4), "edit,4,done\n"),
+        is(edit_fault_text(alloc, 7, 3), "edit,7,E3\n"),
+        is(
+            edit_refused_text(alloc, 2, refused),
+            "edit,2,F20,stages,2,1\n",
+        ),
+        is(session_end_text(alloc, 6), "end,6\n"),
+    ];
+    assert_eq!(rt; told, [true; 4]);
+    Ok(())
+}
+
+// The line for a verdict with the bound 18 at record 3 of a script.
+fn session_line(
+    alloc: Global,
+    checked: &Checked,
+    outcome: Outcome,
+    plan: Option<Plan>,
+) -> Result<Text, NoMemory>
+    requires { IfSome plan (Feasible checked.now.network) }
+{
+    let verdict = Verdict {
+        outcome,
+        bound: 18,
+        plan,
+    };
+    session_answer_text(alloc, 3, &checked.network, &verdict, 1, 5)
+}
+
+#[test]
+fn each_answer_of_a_session_has_its_line(rt: HostRuntime) -> Result<(), Fail> {
+    let alloc = rt.alloc();
+    let checked = two_stages(alloc)?;
+    let plan = feasible_plan(alloc, &checked)?;
+    let optimal = session_line(alloc, &checked, Outcome::Optimal, Some(plan));
+    let infeasible = session_line(alloc, &checked, Outcome::Infeasible, None);
+    let spent = session_line(alloc, &checked, Outcome::Spent, None);
+    let told = [
+        is(optimal, "solve,3,optimal,18,1,5\n"),
+        is(infeasible, "solve,3,infeasible,1,5\n"),
+        is(spent, "solve,3,spent,18,-,1,5\n"),
+    ];
+    assert_eq!(rt; told, [true; 3]);
     Ok(())
 }
