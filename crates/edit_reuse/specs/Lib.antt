@@ -1,0 +1,4 @@
+pub mod Refusals
+pub mod Sessions
+pub mod Edits
+pub mod Answers
