@@ -1,5 +1,6 @@
 ghost use Rattle.std.specs.Prelude.{IfOk, IsTrue};
 ghost use Rattle.stage_file.specs.Records.{AreCountable};
+ghost use Rattle.edit_reuse.specs.Refusals.{IsAsked};
 ghost use Rattle.edit_reuse.specs.Edits.{IsRoomy, HasRoom, IsShort};
 ghost use Rattle.edit_script.specs.Steps.{IsWhole};
 
@@ -7,8 +8,8 @@ ghost use Rattle.edit_script.specs.Steps.{IsWhole};
 use crate::*;
 use edit_script::Edit;
 use service_model::{List, NoMemory, Outcome};
-use stage_file::rules::CYCLE;
-use stage_file::{FileFault, FileKind, Files, Rows, Text, rows_of};
+use stage_file::rules::{BUDGET, CYCLE};
+use stage_file::{FileFault, FileKind, Files, ReadFault, Rows, Text, rows_of};
 use std::alloc::Global;
 use std::test::Fail;
 use step_ledger::Steps;
@@ -21,6 +22,10 @@ const STAGES: &[u8] = b"stage\nA,1,,,,t,1\nB,1,,,,t,2\nC,2,,,0,t,3\n";
 const TABLES: &[u8] = b"table\nt,0,3,5,6,7\n";
 
 const ARCS: &[u8] = b"supplier\nA,B\nB,C\n";
+
+// Ten stages, for no arcs.
+const TEN: &[u8] =
+    b"stage\nA,1,,,,t,1\nB,1,,,,t,1\nC,1,,,,t,1\nD,1,,,,t,1\nE,1,,,,t,1\nF,1,,,,t,1\nG,1,,,,t,1\nH,1,,,,t,1\nI,1,,,,t,1\nJ,1,,,,t,1\n";
 
 // No file here is longer.
 const LONGEST: usize = 1_000_000;
@@ -41,6 +46,18 @@ fn session(alloc: Global) -> Result<Session, Fail> {
         arcs: rows_in(alloc, ARCS)?,
     };
     Ok(Session::new(alloc, files, 4, None)?)
+}
+
+// Why no session begins over the ten stages with a horizon of 400, if none does.
+fn refused(alloc: Global, asked: Option<u32>) -> Result<Option<ReadFault>, Fail>
+    requires { IsAsked asked }
+{
+    let files = Files {
+        stages: rows_in(alloc, TEN)?,
+        tables: rows_in(alloc, TABLES)?,
+        arcs: rows_in(alloc, b"")?,
+    };
+    Ok(Session::new(alloc, files, 400, asked).err())
 }
 
 fn is_roomy(rows: &Rows) -> bool
@@ -99,6 +116,22 @@ fn each_answer_of_a_session_is_that_of_its_edited_files(rt: HostRuntime) -> Resu
         let said = answer(&mut session)?;
         assert_eq!(rt; (refused, said), (None, (Outcome::Optimal, cost, 3)));
     }
+    Ok(())
+}
+
+// Ten stages have 4,010 values a range, and 40,000,000 are allowed.
+#[test]
+fn a_budget_past_the_limit_begins_no_session(rt: HostRuntime) -> Result<(), Fail> {
+    let alloc = rt.alloc();
+    let fault = FileFault {
+        file: FileKind::Words,
+        row: 0,
+        rule: BUDGET,
+        column: 0,
+    };
+    assert_eq!(rt; refused(alloc, None)?, None);
+    assert_eq!(rt; refused(alloc, Some(9_975))?, None);
+    assert_eq!(rt; refused(alloc, Some(9_976))?, Some(ReadFault::Fault(fault)));
     Ok(())
 }
 
