@@ -1,15 +1,13 @@
 -- In files on which the rules hold the row of a named stage has each column.
 use Rattle.std.proofs.Common.{◌≡◌, ℕ, ◌+◌, ◌-◌, ◌≤◌, ◌⊎◌, suc, Bool, true, false, cond, not, eqb, List, [], ◌∷◌, ◌++◌, length, take, drop, get_or, find, Option, Some, None, option_map, All, refl, subst, arith, inl, inr}
 use Rattle.std.specs.Prelude.{codes, IfSome, ◌==◌}
-use Rattle.std.specs.List.{suffix_len}
 use Rattle.std.proofs.lemmas.Bool.Decides.{nat_tests}
-use Rattle.std.proofs.lemmas.List.{length-take}
 use Rattle.std.proofs.lemmas.List.Elements.{All-from_get_or}
 use Rattle.service_model.specs.Search.{first_below}
 use Rattle.stage_file.specs.declared.fault.FileKind.TheVariants.{Stages}
 use Rattle.stage_file.specs.declared.rules.TheConstants.{FIELD_COUNT, NO_STAGES}
 use Rattle.stage_file.specs.declared.raw.Files.{Files}
-use Rattle.stage_file.specs.Rows.{is_blank, without_blank_end}
+use Rattle.stage_file.specs.Rows.{without_blank_end}
 use Rattle.stage_file.specs.Faults.{fails_if, header_fault}
 use Rattle.stage_file.specs.Records.{Numbered, no_record, numbered, kept_at, records_of, below_header, record_at}
 use Rattle.stage_file.specs.Seen.{record_of}
@@ -21,6 +19,7 @@ use Rattle.edit_script.specs.declared.edit.Edit.TheVariants.{SetStage, AddStage,
 use Rattle.edit_script.specs.Steps.{IsWhole}
 use Rattle.edit_script.specs.Names.{first_record, place_of}
 use Rattle.edit_script.specs.Edited.{row_at, HasColumn}
+use Rattle.edit_reuse.proofs.StepLaws.{cut_le}
 
 -- a record of a stage has seven fields
 abbrev HasSeven : Numbered → Type 0
@@ -56,10 +55,6 @@ all_found P test (x ∷ records) r all found =
 -- a record fits the row that its number has in rows, the first of which has a number
 abbrev Fits : ℕ → List (List (List ℕ)) → Numbered → Type 0
 Fits first rows r = (first ≤ r.number) × (length r.fields ≤ length (get_or rows (r.number - first) []))
-
-cut_le : (row : List (List ℕ)) → length (without_blank_end row) ≤ length row
-unfolding without_blank_end
-cut_le row = omega (arith, length-take (length row - suffix_len is_blank row) row)
 
 fits_here : (first : ℕ) (row : List (List ℕ)) (rows : List (List (List ℕ))) → Fits first (row ∷ rows) (record_of first (without_blank_end row))
 fits_here first row rows =

@@ -44,10 +44,12 @@ short_in : (w : Option words.Word) (fields : List (List ℕ)) (e : Edit) → ste
 short_in None fields e is short = cc
 short_in (Some w) fields e is short = short_if (takes w (length fields)) w fields e is short
 
-cut_le : (row : List (List ℕ)) → length (without_blank_end row) ≤ length row
+-- a row without its blank end is no longer
+pub cut_le : (row : List (List ℕ)) → length (without_blank_end row) ≤ length row
 unfolding without_blank_end
 cut_le row = omega (arith, length-take (length row - suffix_len is_blank row) row)
 
+-- the edit of a row of a script has a row that can be numbered, where the row can be
 pub step_short : (row : List (List ℕ)) (e : Edit) → step_of row ≡ Ok (Change e) → length row < 2 ^ 32 → IsShort e
 unfolding step_of
 step_short row e is short =
