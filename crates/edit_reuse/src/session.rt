@@ -99,7 +99,7 @@ impl Session {
     /// The certificate of a search over the network, which begins with no tables. Each table is a step.
     #[tactic(auto, using(crate::proofs::BudgetFacts::budget_some, crate::proofs::BudgetFacts::few_tables))]
     pub fn solve<L>(&mut self, steps: &mut Steps<L>) -> Result<Cert, NoMemory>
-        requires room { steps.old ≤ 2 ^ 62 }
+        requires room { steps.old + MOST_VALUES ≤ 2 ^ 63 }
         ensures answer { IfOk result (IsAnswer self.old) }
         ensures unchanged { self.new ≡ self.old }
         ensures filled { IfOk result (λ c. steps.new ≡ steps.old + length c.tables) }

@@ -13,6 +13,7 @@ mod words;
 
 pub use edit::{ApplyFault, Edit, EditFault, Step};
 pub use edited::apply;
+pub use rows::holds_record;
 pub use steps::read_row;
 
 #[cfg(test)]

@@ -31,7 +31,8 @@ fn has_records(rows: &[Row]) -> bool
     rows.iter().any(holds_record)
 }
 
-fn holds_record(row: &Row) -> bool
+/// Whether a row holds a record; one that holds none is passed over.
+pub fn holds_record(row: &Row) -> bool
     ensures { result ≡ holds_record row.now }
 {
     !kept(row.as_slice()).is_empty()

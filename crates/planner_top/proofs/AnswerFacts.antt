@@ -1,5 +1,5 @@
 -- A task that is done, or a refusal, is the answer.
-use Rattle.std.proofs.Common.{◌≡◌, ◌≤◌, ℕ, Bool, true, false, List, [], ◌∷◌, Option, Some, None, Result, Ok, Err, refl, sym, subst, ap, ◌∙◌, arith}
+use Rattle.std.proofs.Common.{◌≡◌, ◌≤◌, ℕ, ◌+◌, ◌-◌, Bool, true, false, List, [], ◌∷◌, Option, Some, None, Result, Ok, Err, refl, sym, subst, ap, ◌∙◌, arith}
 use Rattle.std.specs.Option.{IfSome}
 use Rattle.std.specs.Result.{MatchResult, IsOk, IsErr}
 use Rattle.std.proofs.lemmas.Bool.{false≢true}
@@ -18,10 +18,20 @@ use Rattle.planner_top.specs.declared.stop.Stop.{Stop}
 use Rattle.planner_top.specs.declared.stop.Stop.TheVariants as stop
 use Rattle.planner_top.specs.declared.answer.Ending.{Ending}
 use Rattle.planner_top.specs.declared.answer.Ending.TheVariants as ending
+use Rattle.planner_top.specs.declared.answer.Answer.{Answer}
+use Rattle.planner_top.specs.declared.answer.Unanswered.{Unanswered}
+use Rattle.planner_top.specs.declared.answer.Unanswered.TheVariants as unanswered
+use Rattle.planner_top.specs.declared.stop.Unsolved.{Unsolved}
+use Rattle.planner_top.specs.declared.stop.Unsolved.TheVariants as unsolved
+use Rattle.cert_files.specs.Certificates.{bytes_in}
 use Rattle.command_words.specs.Asked.{Asked, asked_of}
 use Rattle.planner_top.specs.Stops.{stop_row}
-use Rattle.planner_top.specs.Problems.{IsTaskOf, TellsWords}
-use Rattle.planner_top.specs.Answers.{IsProblem, IsRefusal, MayEnd, ending_of, IsAnswer}
+use Rattle.planner_top.specs.Problems.{IsTaskOf, TellsWords, ProblemCase, ReplyCase, AnswerCase, UnsolvedCase}
+use Rattle.edit_reuse.specs.Sessions.{State}
+use Rattle.planner_top.specs.Sessions.{AsksSession}
+use Rattle.planner_top.specs.declared.answer.Reply.{Reply}
+use Rattle.planner_top.specs.declared.answer.Reply.TheVariants as reply
+use Rattle.planner_top.specs.Answers.{IsProblem, IsRefusal, MayEnd, ending_of, IsAnswer, IsTextOf}
 use Rattle.planner_top.specs.Done.{IsSolution, IsDone, ending_by}
 
 -- how a network's solution may end
@@ -45,6 +55,7 @@ not_words : (t : Task) (rows : List (List (List ℕ))) (filled : ℕ) (cert : Op
 not_words (task.Solve c f budget) rows filled cert is = not_solved ending.Words rows filled cert c f budget is refl
 not_words (task.Audit c plan) rows filled cert is = is.0
 not_words (task.Check c bytes) rows filled cert is = is.0
+not_words (task.Session s script) rows filled cert is = is
 
 done_may_end : (c : Command) (t : Task) (e : Ending) (rows : List (List (List ℕ))) (filled : ℕ) (cert : Option (List ℕ)) → IsTaskOf c t → IsDone e rows filled cert t → MayEnd c e
 done_may_end command.Solve (task.Solve c f b) ending.NotFeasible rows filled cert own is = absurd (not_solved ending.NotFeasible rows filled cert c f b is refl)
@@ -71,6 +82,13 @@ done_may_end command.Check (task.Check c bytes) ending.NotAccepted rows filled c
 done_may_end command.Check (task.Check c bytes) ending.Words rows filled cert own is = absurd is.0
 done_may_end command.Check (task.Check c bytes) ending.Refused rows filled cert own is = absurd is.0
 done_may_end command.Check (task.Check c bytes) ending.TooLong rows filled cert own is = absurd is.0
+done_may_end command.Session (task.Session s script) e rows filled cert own is = absurd is
+done_may_end command.Session (task.Solve c f b) e rows filled cert own is = absurd own
+done_may_end command.Session (task.Audit c plan) e rows filled cert own is = absurd own
+done_may_end command.Session (task.Check c bytes) e rows filled cert own is = absurd own
+done_may_end command.Solve (task.Session s script) e rows filled cert own is = absurd own
+done_may_end command.Audit (task.Session s script) e rows filled cert own is = absurd own
+done_may_end command.Check (task.Session s script) e rows filled cert own is = absurd own
 done_may_end command.Solve (task.Audit c plan) e rows filled cert own is = absurd own
 done_may_end command.Solve (task.Check c bytes) e rows filled cert own is = absurd own
 done_may_end command.Audit (task.Solve c f b) e rows filled cert own is = absurd own
@@ -112,6 +130,9 @@ refused_may_end command.Audit (stop.Refused fault) = tt
 refused_may_end command.Check (stop.Words fault) = tt
 refused_may_end command.Check (stop.TooLong word) = tt
 refused_may_end command.Check (stop.Refused fault) = tt
+refused_may_end command.Session (stop.Words fault) = tt
+refused_may_end command.Session (stop.TooLong word) = tt
+refused_may_end command.Session (stop.Refused fault) = tt
 
 told_refused : (words : List (List ℕ)) (held : Option Held) (e : Ending) (rows : List (List (List ℕ))) (filled : ℕ) (cert : Option (List ℕ)) (s : Stop) → IfSome held (λ m. IsProblem words m (Err s)) → IsRefusal e rows filled cert s
     → IfSome held (λ m. (problem : Result Task Stop) × IsProblem words m problem × MatchResult problem (IsDone e rows filled cert) (IsRefusal e rows filled cert))
@@ -145,3 +166,40 @@ refused_answer words held e rows filled cert s tells is line = record {
   few = (let none = line.2 in omega (arith, none));
   told = told_refused words held e rows filled cert s is line;
 }
+
+-- a reply that is an answer
+abbrev pub reply_with : Result Answer Unanswered → Result Reply Unanswered
+reply_with (Ok a) = Ok (reply.Answer a)
+reply_with (Err e) = Err e
+
+-- the answer where there is nothing to do
+pub unsolved_case : (words : List (List ℕ)) (held : Option Held) (before now ticks : ℕ) (u : Unsolved) (r : Result Answer Unanswered) → ProblemCase words held before now (Err u) → UnsolvedCase u r → AnswerCase words held before now ticks ticks (reply_with r)
+unsolved_case words held before now ticks (unsolved.Stop s) (Ok a) case is =
+    let counted : ticks ≡ ticks + 0 = omega arith in
+    (case.0, (0, counted, (is.0, is.1, refused_answer words held a.ending is.0 0 (bytes_in a.cert) s case.1 case.2 is.2)))
+unsolved_case words held before now ticks (unsolved.Stop s) (Err unanswered.NoMemory) case is = (let same = case.0 in (omega (arith, same), omega arith, omega arith))
+unsolved_case words held before now ticks (unsolved.Stop s) (Err (unanswered.Fault word)) case is = absurd is
+unsolved_case words held before now ticks (unsolved.Fault word) r case is =
+    subst (λ (x : Result Answer Unanswered). AnswerCase words held before now ticks ticks (reply_with x)) (sym is) (case.0, case.1, case.2, refl)
+unsolved_case words held before now ticks unsolved.NoMemory r case is =
+    subst (λ (x : Result Answer Unanswered). AnswerCase words held before now ticks ticks (reply_with x)) (sym is) (case, omega arith, omega arith)
+
+session_asked : (words : List (List ℕ)) (s : State) (script : List (List (List ℕ))) → ((q : Asked) × (asked_of words ≡ Ok q) × IsTaskOf q.command (task.Session s script)) → AsksSession words
+session_asked words s script (q, asked, own) = (q, asked, from q.command own)
+  where
+    from : (c : Command) → IsTaskOf c (task.Session s script) → c ≡ command.Session
+    from command.Session own = refl
+    from command.Solve own = absurd own
+    from command.Audit own = absurd own
+    from command.Check own = absurd own
+
+-- a task that is done is the answer, and a session is the one that is asked for
+pub replied_case : (words : List (List ℕ)) (held : Option Held) (before now ticks ticked : ℕ) (t : Task) (r : Reply) → ProblemCase words held before now (Ok t) → ticks ≤ ticked → ticked ≤ ticks + MOST_FILLED → ReplyCase t ticks ticked r
+    → AnswerCase words held before now ticks ticked (Ok r)
+replied_case words held before now ticks ticked t (reply.Answer a) case later few done =
+    let counted : ticked ≡ ticks + (ticked - ticks) = omega (arith, later) in
+    let small : ticked - ticks ≤ MOST_FILLED = omega (arith, few) in
+    (case.0, (ticked - ticks, counted, (done.0, done.1, done_answer words held a.ending done.0 (ticked - ticks) (bytes_in a.cert) t case.2 case.3 small done.2)))
+replied_case words held before now ticks ticked t (reply.Session s script) case later few done =
+    let here = subst (λ (x : Task). ProblemCase words held before now (Ok x)) done.0 case in
+    (case.0, done.1, here.1, (session_asked words s script here.2, here.3))

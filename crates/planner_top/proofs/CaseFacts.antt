@@ -1,5 +1,5 @@
 -- The task of files, by the steps that find it.
-use Rattle.std.proofs.Common.{◌≡◌, ◌≤◌, ℕ, List, length, Option, Some, None, Result, Ok, Err, refl, sym, subst, ap, ◌∙◌}
+use Rattle.std.proofs.Common.{◌≡◌, ◌≤◌, ◌+◌, ℕ, List, length, Option, Some, None, Result, Ok, Err, refl, sym, subst, ap, ◌∙◌, arith}
 use Rattle.std.specs.Option.{MatchOption}
 use Rattle.service_model.specs.declared.plan.Plan.{Plan}
 use Rattle.service_model.specs.Plans.{HasTimes}
@@ -11,6 +11,7 @@ use Rattle.stage_file.specs.Faults.{Reads}
 use Rattle.stage_file.specs.Arcs.{names_of}
 use Rattle.stage_file.specs.PlanRecords.{plan_file_fault, plan_of}
 use Rattle.stage_file.specs.Rows.{rows_of_bytes}
+use Rattle.stage_file.specs.Records.{AreCountable}
 use Rattle.stage_file.specs.declared.raw.Files.{Files}
 use Rattle.stage_file.specs.Raw.{raw_fault, raw_of}
 use Rattle.network_check.specs.declared.checked.Checked.{Checked}
@@ -19,16 +20,18 @@ use Rattle.network_check.specs.Refusals.{IsFirstTogether, RecordsCase}
 use Rattle.command_words.specs.declared.command.Command.{Command}
 use Rattle.command_words.specs.declared.command.Command.TheVariants as command
 use Rattle.request_files.specs.declared.contents.Contents.{Contents}
-use Rattle.request_files.specs.declared.files.TheConstants.{CERT_LIMIT}
+use Rattle.request_files.specs.declared.files.TheConstants.{FILE_LIMIT, CERT_LIMIT}
 use Rattle.planner_top.specs.declared.task.Task.{Task}
 use Rattle.planner_top.specs.declared.task.Task.TheVariants as task
 use Rattle.planner_top.specs.declared.stop.Stop.TheVariants as stop
 use Rattle.planner_top.specs.declared.stop.Unsolved.{Unsolved}
 use Rattle.planner_top.specs.declared.stop.Unsolved.TheVariants as unsolved
-use Rattle.planner_top.specs.Tasks.{files_in, raw_in, IsLastFault}
+use Rattle.edit_reuse.specs.Refusals as reuse
+use Rattle.edit_reuse.specs.Sessions.{State, IsOver, NewCase}
+use Rattle.planner_top.specs.Tasks.{files_in, raw_in, IsLastFault, IsFirstRefused, AreReadRows, AreReadFiles}
 use Rattle.planner_top.specs.TaskCases.{TaskCase, TogetherCase, LastCase}
 use Rattle.planner_top.specs.Stops.{unsolved_by}
-use Rattle.planner_top.proofs.TaskFacts.{plan_has_times}
+use Rattle.planner_top.proofs.TaskFacts.{by_records, plan_has_times}
 
 -- a rule on one file fails
 pub raw_refused : (c : Command) (ranges : Option ℕ) (horizon : ℕ) (contents : Contents) (files : Files) (f : ReadFault) → files ≡ files_in contents → Reads (raw_fault horizon files) (raw_of horizon files) (Err f) → TaskCase c ranges horizon contents (Err (unsolved_by f))
@@ -60,7 +63,7 @@ pub task_found : (c : Command) (ranges : Option ℕ) (horizon : ℕ) (contents :
 task_found c ranges horizon contents raw r none same is = from r (subst (λ (x : RawNet). TogetherCase c ranges x contents.further r) same is)
   where
     from : (r : Result Task Unsolved) → TogetherCase c ranges (raw_in horizon contents) contents.further r → TaskCase c ranges horizon contents r
-    from (Ok t) is = (((None, rw none is.0, is.1), is.2), is.3)
+    from (Ok t) is = (((None, rw none is.0, is.1), by_records c ranges horizon contents t is.2), is.3)
     from (Err (unsolved.Stop (stop.Refused fault))) is = (is.0, rw none is.1, behind c ranges (raw_in horizon contents) contents.further fault is.0 is.2)
     from (Err (unsolved.Stop (stop.Words fault))) is = absurd is
     from (Err (unsolved.Stop (stop.TooLong word))) is = absurd is
@@ -82,3 +85,25 @@ pub audit_refused : (ranges : Option ℕ) (raw : RawNet) (further : List ℕ) (f
     → Reads (plan_file_fault (names_of raw.stages) (rows_of_bytes further)) (plan_of (names_of raw.stages) (rows_of_bytes further)) (Err f) → LastCase command.Audit ranges raw further (Err (unsolved_by f))
 audit_refused ranges raw further (read.Fault fault) is = sym is
 audit_refused ranges raw further read.NoMemory is = tt
+
+-- a session is over files on which no rule fails
+pub session_found : (ranges : Option ℕ) (horizon : ℕ) (contents : Contents) (files : Files) (script : List (List (List ℕ))) (s : State) → files ≡ files_in contents → script ≡ rows_of_bytes contents.further → AreCountable script → AreReadRows script
+    → AreReadFiles files → NewCase horizon ranges files (Ok s) → TaskCase command.Session ranges horizon contents (Ok (task.Session s script))
+session_found ranges horizon contents files script s same read countable few roomy is =
+    let over = subst (λ (x : Files). IsOver horizon ranges x s) same is in
+    let holds : IsFirstRefused command.Session ranges horizon contents None = refused_none horizon ranges (files_in contents) s over in
+    let stages : length s.files.stages ≤ FILE_LIMIT + 1 = subst (λ (x : Files). length x.stages ≤ FILE_LIMIT + 1) (sym is.files_are) roomy.stages in
+    let tables : length s.files.tables ≤ FILE_LIMIT + 1 = subst (λ (x : Files). length x.tables ≤ FILE_LIMIT + 1) (sym is.files_are) roomy.tables in
+    let arcs : length s.files.arcs ≤ FILE_LIMIT + 1 = subst (λ (x : Files). length x.arcs ≤ FILE_LIMIT + 1) (sym is.files_are) roomy.arcs in
+    ((holds, (over, read)), (countable, few, record { stages = omega (arith, stages, few); tables = omega (arith, tables, few); arcs = omega (arith, arcs, few) }))
+  where
+    refused_none : (horizon : ℕ) (asked : Option ℕ) (files : Files) (s : State) → IsOver horizon asked files s → reuse.IsFirstRefused horizon asked files None
+    refused_none horizon asked files s over =
+        subst (λ (x : Files). reuse.IsFirstRefused horizon asked x None) over.files_are
+        (subst (λ (x : ℕ). reuse.IsFirstRefused x asked s.files None) over.horizon_is
+        (subst (λ (x : Option ℕ). reuse.IsFirstRefused s.horizon x s.files None) over.asked_is over.session.budgeted.holds))
+
+-- a rule on them fails
+pub session_refused : (ranges : Option ℕ) (horizon : ℕ) (contents : Contents) (files : Files) (f : ReadFault) → files ≡ files_in contents → NewCase horizon ranges files (Err f) → TaskCase command.Session ranges horizon contents (Err (unsolved_by f))
+session_refused ranges horizon contents files (read.Fault fault) same is = subst (λ (x : Files). reuse.IsFirstRefused horizon ranges x (Some fault)) same is
+session_refused ranges horizon contents files read.NoMemory same is = tt

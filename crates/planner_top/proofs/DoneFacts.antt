@@ -15,7 +15,7 @@ use Rattle.stock_report.specs.Audits.{audit_rows, broken_row, audited_by, audite
 use Rattle.planner_top.specs.declared.answer.Answer.{Answer}
 use Rattle.planner_top.specs.declared.answer.Ending.TheVariants as ending
 use Rattle.planner_top.specs.declared.task.Task.TheVariants as task
-use Rattle.planner_top.specs.Certificates.{bytes_in}
+use Rattle.cert_files.specs.Certificates.{bytes_in}
 use Rattle.planner_top.specs.Done.{IsAudit, IsCheck, IsDone}
 use Rattle.planner_top.specs.Answers.{IsTextOf}
 
@@ -40,13 +40,11 @@ pub none_filled : (n : ℕ) → n - n ≡ 0
 none_filled n = omega arith
 
 -- an audit is a task that is done
-pub audited : {E : Type 0} (r : Result Answer E) (c : Checked) (p : Plan) (filled : ℕ) → filled ≡ 0 → IfOk r (λ a. IsTextOf a.text (λ rows. IsAudit a.ending rows c p)) → IfOk r (λ a. a.cert ≡ None)
-    → IfOk r (λ a. IsTextOf a.text (λ rows. IsDone a.ending rows filled (bytes_in a.cert) (task.Audit c p)))
-audited (Ok a) c p filled none audit cert = (audit.0, audit.1, (audit.2, none, ap bytes_in cert))
-audited (Err e) c p filled none audit cert = tt
+pub audited : (a : Answer) (c : Checked) (p : Plan) (filled : ℕ) → filled ≡ 0 → IsTextOf a.text (λ rows. IsAudit a.ending rows c p) → a.cert ≡ None
+    → IsTextOf a.text (λ rows. IsDone a.ending rows filled (bytes_in a.cert) (task.Audit c p))
+audited a c p filled none audit cert = (audit.0, audit.1, (audit.2, none, ap bytes_in cert))
 
 -- and so is a check
-pub checked : {E : Type 0} (r : Result Answer E) (c : Checked) (bytes : List ℕ) (filled : ℕ) → filled ≡ 0 → IfOk r (λ a. IsTextOf a.text (λ rows. IsCheck a.ending rows c bytes)) → IfOk r (λ a. a.cert ≡ None)
-    → IfOk r (λ a. IsTextOf a.text (λ rows. IsDone a.ending rows filled (bytes_in a.cert) (task.Check c bytes)))
-checked (Ok a) c bytes filled none check cert = (check.0, check.1, (check.2, none, ap bytes_in cert))
-checked (Err e) c bytes filled none check cert = tt
+pub checked : (a : Answer) (c : Checked) (bytes : List ℕ) (filled : ℕ) → filled ≡ 0 → IsTextOf a.text (λ rows. IsCheck a.ending rows c bytes) → a.cert ≡ None
+    → IsTextOf a.text (λ rows. IsDone a.ending rows filled (bytes_in a.cert) (task.Check c bytes))
+checked a c bytes filled none check cert = (check.0, check.1, (check.2, none, ap bytes_in cert))

@@ -3,12 +3,10 @@ pub mod BudgetFacts
 pub mod CaseFacts
 pub mod DoneFacts
 pub mod ExactFacts
-pub mod FullFacts
 pub mod HeadlineFacts
 pub mod LastFacts
-pub mod PutFacts
 pub mod SolveFacts
+pub mod SessionFacts
 pub mod StatusFacts
-pub mod WrittenFacts
 pub mod ProblemFacts
 pub mod TaskFacts

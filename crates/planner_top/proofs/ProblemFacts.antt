@@ -5,7 +5,7 @@ use Rattle.gsm_outside.specs.Held.{Held}
 use Rattle.command_words.specs.Asked.{Asked}
 use Rattle.request_files.specs.Lengths.{too_long_of}
 use Rattle.request_files.specs.Contents.{contents_of, FilesCase}
-use Rattle.planner_top.specs.Tasks.{raw_in, IsTask}
+use Rattle.planner_top.specs.Tasks.{IsTask}
 use Rattle.planner_top.specs.TaskCases.{TaskCase}
 use Rattle.planner_top.specs.Answers.{IsAskedProblem}
 use Rattle.planner_top.specs.Stops.{unsolved_as}
@@ -34,7 +34,7 @@ told q (Some m) contents problem read is =
 pub asked_case : (q : Asked) (held : Option Held) (before now : ℕ) (contents : Contents) (r : Result Task Unsolved) → now ≡ before → WereRead q held contents
     → TaskCase q.command q.ranges q.horizon contents r → AskedCase q held before now r
 asked_case q held before now contents (Ok t) same read case =
-    (same, case.1, own_task q.command q.ranges (raw_in q.horizon contents) contents.further t case.0.1, told q held contents (Ok t) read case.0)
+    (same, case.1, own_task q.command q.ranges q.horizon contents t case.0.1, told q held contents (Ok t) read case.0)
 asked_case q held before now contents (Err (unsolved.Stop (stop.Refused fault))) same read case = (same, told q held contents (Err (stop.Refused fault)) read case)
 asked_case q held before now contents (Err (unsolved.Stop (stop.Words fault))) same read case = absurd case
 asked_case q held before now contents (Err (unsolved.Stop (stop.TooLong word))) same read case = absurd case

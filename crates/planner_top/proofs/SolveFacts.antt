@@ -1,14 +1,13 @@
 -- What a search's certificate says of the answer.
 use Rattle.std.proofs.Common.{◌≡◌, ◌<◌, ◌≤◌, ℕ, ◌+◌, [], length, Option, Some, None, Result, Ok, Err, refl, ap, ◌∙◌}
 use Rattle.std.specs.Prelude.{IfSome, IfOk}
-use Rattle.service_model.specs.declared.plan.Plan.{Plan}
 use Rattle.service_model.specs.declared.cert.Cert.{Cert}
-use Rattle.service_model.specs.declared.cert.Outcome.{Outcome}
 use Rattle.service_model.specs.declared.cert.Outcome.TheVariants as outcome
 use Rattle.service_model.specs.declared.cert.Verdict.{Verdict}
 use Rattle.service_model.specs.Net.{Net}
 use Rattle.service_model.specs.Plans.{Feasible}
-use Rattle.service_model.specs.Verdicts.{TrueAs, IsTrueOf}
+use Rattle.service_model.specs.Verdicts.{IsTrueOf}
+use Rattle.cert_files.proofs.VerdictFacts.{plan_feasible}
 use Rattle.tree_order.specs.declared.forest.Forest.{Forest}
 use Rattle.search_laws.specs.Own.{IsOwn}
 use Rattle.search_laws.specs.Enough.{enough_of}
@@ -17,22 +16,14 @@ use Rattle.network_check.specs.declared.checked.Checked.{Checked}
 use Rattle.cert_check.specs.Bytes.{IsAcceptedBytes}
 use Rattle.stock_report.specs.Lines.{lines_of}
 use Rattle.stock_report.specs.Answers.{solution_rows}
-use Rattle.planner_top.specs.Certificates.{cert_bytes, bytes_in}
+use Rattle.cert_files.specs.Certificates.{cert_bytes, bytes_in}
 use Rattle.planner_top.specs.Done.{IsSolution, ending_by}
 use Rattle.planner_top.specs.Answers.{IsTextOf}
 use Rattle.planner_top.specs.declared.answer.Answer.{Answer}
 
-feasible_as : (o : Outcome) (n : Net) (bound : ℕ) (plan : Option Plan) → TrueAs o n bound plan → IfSome plan (Feasible n)
-feasible_as outcome.Optimal n bound None is = absurd is
-feasible_as outcome.Optimal n bound (Some p) is = is.0.feasible
-feasible_as outcome.Infeasible n bound None is = tt
-feasible_as outcome.Infeasible n bound (Some p) is = (let none = is.1 in cc)
-feasible_as outcome.Spent n bound None is = tt
-feasible_as outcome.Spent n bound (Some p) is = is.1 p refl
-
 -- the plan of a true verdict is feasible
 pub true_feasible : (n : Net) (v : Verdict) → IsTrueOf n v → IfSome v.plan (Feasible n)
-true_feasible n v is = feasible_as v.outcome n v.bound v.plan is
+true_feasible n v is = plan_feasible n v is
 
 -- what a search gives within its budget
 pub record IsSearched (n : Net) (f : Forest) (budget filled : ℕ) (x : Cert) : Type 0 where

@@ -14,6 +14,7 @@ use Rattle.planner_top.specs.Answers.{IsAnswer}
 use Rattle.planner_top.specs.Runs.{Run, Follows, PartFollows, IsLater}
 use Rattle.planner_top.specs.Endings.{Answered, IsFound, status_of}
 use Rattle.planner_top.specs.Faults.{IsUnsolved, IsUnwritten, PrintsFront}
+use Rattle.planner_top.proofs.SessionFacts.{few_for}
 use Rattle.planner_top.specs.StatusCases.{StatusCase, FaultCase, Given, given_of, PutsFront, TellsFront, PutsAll, GivenCase}
 
 -- the answer that a run gives, by its text
@@ -31,7 +32,7 @@ found_ticks r rows cert found = (let ticks = found.ticks in let few = found.answ
 later_by : (r : Run) (rows : List (List (List ℕ))) (cert : Option (List ℕ)) → IsFound r rows cert → r.writes ≤ r.writes_after → r.faults ≤ r.faults_after → IsLater r
 later_by r rows cert found writes faults =
     let ticks = found_ticks r rows cert found in
-    record { reads = omega (arith, found.reads); writes = writes; faults = faults; ticks = ticks.0; few = ticks.1 }
+    record { reads = omega (arith, found.reads); writes = writes; faults = faults; ticks = ticks.0; few = few_for r ticks.1 }
 
 fronts_later : (r : Run) (e : Ending) (rows : List (List (List ℕ))) (cert : Option (List ℕ)) → IsFound r rows cert → PutsFront (given_in r e rows cert) → IsLater r
 fronts_later r e rows cert found puts = later_by r rows cert found (omega (arith, puts.writes)) puts.faults
@@ -58,7 +59,7 @@ puts_all : (r : Run) (e : Ending) (rows : List (List (List ℕ))) (cert : Option
 puts_all r e rows cert filled reads ticks answer puts = (reads, puts.writes, puts.faults, (rows, filled, cert, ticks, answer, puts.printed, puts.held))
 
 answered_case : (r : Run) (e : Ending) → Answered r e → StatusCase r (status_of e)
-answered_case r ending.Done answered = answered
+answered_case r ending.Done answered = inl answered
 answered_case r ending.Infeasible answered = answered
 answered_case r ending.Spent answered = answered
 answered_case r ending.Words answered = answered
@@ -79,14 +80,14 @@ given_case r e rows text cert filled s told reads ticks answer case = from s (su
     whole s is = subst (StatusCase r) (sym is.0) (answered_case r e (puts_all r e rows cert filled reads ticks answer is.1))
 
     from : (s : Status) → GivenCase (given_in r e rows cert) s → StatusCase r s
-    from status.WriteFault (inl puts) = (fronts_later r e rows cert found puts.0, inl puts.1, prints_front r e rows cert found puts.0)
-    from status.WriteFault (inr (tells, inl rose)) = (later_by r rows cert found tells.later tells.faults, inl rose, tells_front r e rows cert found tells)
+    from status.WriteFault (inl puts) = (fronts_later r e rows cert found puts.0, inl (inl puts.1, prints_front r e rows cert found puts.0))
+    from status.WriteFault (inr (tells, inl rose)) = (later_by r rows cert found tells.later tells.faults, inl (inl rose, tells_front r e rows cert found tells))
     from status.WriteFault (inr (tells, inr told)) =
-        (later_by r rows cert found tells.later tells.faults, inr (unwritten r e rows cert found tells, told), tells_front r e rows cert found tells)
-    from status.NoMemory (inl puts) = (fronts_later r e rows cert found puts, inr (inr (prints_front r e rows cert found puts)))
-    from status.NoMemory (inr (inl tells)) = (later_by r rows cert found tells.later tells.faults, inr (inr (tells_front r e rows cert found tells)))
+        (later_by r rows cert found tells.later tells.faults, inl (inr (unwritten r e rows cert found tells, told), tells_front r e rows cert found tells))
+    from status.NoMemory (inl puts) = (fronts_later r e rows cert found puts, inl (inr (inr (prints_front r e rows cert found puts))))
+    from status.NoMemory (inr (inl tells)) = (later_by r rows cert found tells.later tells.faults, inl (inr (inr (tells_front r e rows cert found tells))))
     from status.NoMemory (inr (inr part)) =
-        (later_by r rows cert found part.later (omega (arith, part.faults)), inr (inl (record { written = part.printed; begun = record { rows = rows; cert = cert; found = found; part = part.held } })))
+        (later_by r rows cert found part.later (omega (arith, part.faults)), inl (inr (inl (record { written = part.printed; begun = record { rows = rows; cert = cert; found = found; part = part.held } }))))
     from status.Done is = whole status.Done is
     from status.Infeasible is = whole status.Infeasible is
     from status.Spent is = whole status.Spent is
@@ -100,16 +101,16 @@ given_case r e rows text cert filled s told reads ticks answer case = from s (su
 -- where no table was filled, that count keeps its room
 still : (r : Run) (word : FileWord) → IsUnsolved r word → r.reads ≤ r.reads_after → r.faults ≤ r.faults_after → IsLater r
 still r word unsolved reads faults =
-    record { reads = reads; writes = omega (arith, unsolved.writes); faults = faults; ticks = omega (arith, unsolved.ticks); few = omega (arith, unsolved.ticks) }
+    record { reads = reads; writes = omega (arith, unsolved.writes); faults = faults; ticks = omega (arith, unsolved.ticks); few = few_for r (omega (arith, unsolved.ticks)) }
 
 -- what is left of a run whose read failed
 pub fault_case : (r : Run) (word : FileWord) (s : Status) → r.reads ≤ r.reads_after → IsUnsolved r word → FaultCase word r.written r.written_after r.faults r.faults_after s → StatusCase r s
 fault_case r word status.ReadFault later unsolved case = (later, (case.0, (word, unsolved, case.1)))
 fault_case r word status.WriteFault later unsolved case =
-    (still r word unsolved later case.0, inl case.1, record { rows = fault_row word ∷ []; printed = inr (inl (word, unsolved, refl)); front = case.2 })
-fault_case r word status.NoMemory later unsolved (faults, inl same) = (still r word unsolved later faults, inl (record { written = same; held = unsolved.held; writes = unsolved.writes }))
+    (still r word unsolved later case.0, inl (inl case.1, record { rows = fault_row word ∷ []; printed = inr (inl (word, unsolved, refl)); front = case.2 }))
+fault_case r word status.NoMemory later unsolved (faults, inl same) = (still r word unsolved later faults, inl (inl (record { written = same; held = unsolved.held; writes = unsolved.writes })))
 fault_case r word status.NoMemory later unsolved (faults, inr part) =
-    (still r word unsolved later faults, inr (inr (record { rows = fault_row word ∷ []; printed = inr (inl (word, unsolved, refl)); front = part })))
+    (still r word unsolved later faults, inl (inr (inr (record { rows = fault_row word ∷ []; printed = inr (inl (word, unsolved, refl)); front = part }))))
 fault_case r word status.Done later unsolved case = absurd case
 fault_case r word status.Infeasible later unsolved case = absurd case
 fault_case r word status.Spent later unsolved case = absurd case

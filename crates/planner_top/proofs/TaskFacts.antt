@@ -32,7 +32,10 @@ use Rattle.planner_top.specs.declared.stop.Stop.TheVariants as stop
 use Rattle.command_words.specs.Asked.{Asked, asked_of}
 use Rattle.request_files.specs.Lengths.{too_long_of}
 use Rattle.request_files.specs.Contents.{contents_of}
-use Rattle.planner_top.specs.Tasks.{files_in, raw_in, IsForestIn, IsLastFault, IsTaskFrom, IsFirstRefused, IsTask}
+use Rattle.edit_reuse.specs.declared.budget.Budgeted.{Budgeted}
+use Rattle.edit_reuse.specs.Refusals.{AreBudgeted}
+use Rattle.edit_reuse.specs.Sessions.{State, state_of, IsOver}
+use Rattle.planner_top.specs.Tasks.{files_in, raw_in, IsForestIn, IsLastFault, IsTaskFrom, IsTaskBy, IsFirstRefused, IsTask}
 use Rattle.planner_top.specs.Problems.{IsTaskOf}
 use Rattle.planner_top.specs.Answers.{IsAskedProblem, IsProblem}
 use Rattle.planner_top.proofs.BudgetFacts.{one_budget}
@@ -42,6 +45,7 @@ one_last : (c : Command) (ranges : Option ℕ) (raw : RawNet) (further : List �
 one_last command.Solve ranges raw further a b is also = is ∙ sym also
 one_last command.Audit ranges raw further a b is also = is ∙ sym also
 one_last command.Check ranges raw further a b is also = is ∙ sym also
+one_last command.Session ranges raw further a b is also = is ∙ sym also
 
 one_behind : (c : Command) (ranges : Option ℕ) (raw : RawNet) (further : List ℕ) (before a b : Option FileFault)
     → MatchOption before (IsLastFault c ranges raw further a) (λ f. a ≡ Some f) → MatchOption before (IsLastFault c ranges raw further b) (λ f. b ≡ Some f) → a ≡ b
@@ -76,6 +80,13 @@ one_task_from command.Audit ranges raw further (task.Audit d p) (task.Audit e q)
     ap (λ (x : Checked). task.Audit x p) (one_network_of raw d e read none is.0 also.0) ∙ ap (task.Audit e) (is.1 ∙ sym also.1)
 one_task_from command.Check ranges raw further (task.Check d a) (task.Check e b) read none is also =
     ap (λ (x : Checked). task.Check x a) (one_network_of raw d e read none is.0 also.0) ∙ ap (task.Check e) (is.1 ∙ sym also.1)
+one_task_from command.Solve ranges raw further (task.Session s a) u read none is also = absurd is
+one_task_from command.Audit ranges raw further (task.Session s a) u read none is also = absurd is
+one_task_from command.Check ranges raw further (task.Session s a) u read none is also = absurd is
+one_task_from command.Session ranges raw further t u read none is also = absurd is
+one_task_from command.Solve ranges raw further (task.Solve d f a) (task.Session t b) read none is also = absurd also
+one_task_from command.Audit ranges raw further (task.Audit d p) (task.Session t b) read none is also = absurd also
+one_task_from command.Check ranges raw further (task.Check d a) (task.Session t b) read none is also = absurd also
 one_task_from command.Solve ranges raw further (task.Audit d p) u read none is also = absurd is
 one_task_from command.Solve ranges raw further (task.Check d a) u read none is also = absurd is
 one_task_from command.Audit ranges raw further (task.Solve d f a) u read none is also = absurd is
@@ -89,11 +100,39 @@ one_task_from command.Audit ranges raw further (task.Audit d p) (task.Check e b)
 one_task_from command.Check ranges raw further (task.Check d a) (task.Solve e g b) read none is also = absurd also
 one_task_from command.Check ranges raw further (task.Check d a) (task.Audit e q) read none is also = absurd also
 
+-- a session over files is one
+one_session : (horizon : ℕ) (asked : Option ℕ) (files : Files) (s t : State) → IsRawNet (raw_of horizon files) → IsFirstTogether (raw_of horizon files) None → IsOver horizon asked files s → IsOver horizon asked files t → s ≡ t
+one_session horizon asked files s t read none is also = from s t is.files_are is.horizon_is is.asked_is also.files_are also.horizon_is also.asked_is is.session.budgeted also.session.budgeted
+  where
+    from : (s t : State) → s.files ≡ files → s.horizon ≡ horizon → s.asked ≡ asked → t.files ≡ files → t.horizon ≡ horizon → t.asked ≡ asked
+        → AreBudgeted s.horizon s.asked s.files s.made → AreBudgeted t.horizon t.asked t.files t.made → s ≡ t
+    from s t sf sh sa tf th ta is also =
+        let a : AreBudgeted horizon asked files s.made = subst (λ (x : Files). AreBudgeted horizon asked x s.made) sf (subst (λ (x : Option ℕ). AreBudgeted horizon x s.files s.made) sa (subst (λ (x : ℕ). AreBudgeted x s.asked s.files s.made) sh is)) in
+        let b : AreBudgeted horizon asked files t.made = subst (λ (x : Files). AreBudgeted horizon asked x t.made) tf (subst (λ (x : Option ℕ). AreBudgeted horizon x t.files t.made) ta (subst (λ (x : ℕ). AreBudgeted x t.asked t.files t.made) th also)) in
+        let network = one_network_of (raw_of horizon files) s.made.checked t.made.checked read none a.network b.network in
+        let budget = one_budget s.made.checked.network asked s.made.budget t.made.budget a.budget_is (subst (λ (x : Checked). IsBudgetOf x.network asked (Ok t.made.budget)) (sym network) b.budget_is) in
+        let made : s.made ≡ t.made = ap (λ (x : Checked). (let m : Budgeted = record { checked = x; budget = s.made.budget } in m)) network ∙ ap (λ (x : ℕ). (let m : Budgeted = record { checked = t.made.checked; budget = x } in m)) budget in
+        ap (λ (x : Files). state_of x s.horizon s.asked s.made) (sf ∙ sym tf) ∙ ap (λ (x : ℕ). state_of t.files x s.asked s.made) (sh ∙ sym th)
+        ∙ ap (λ (x : Option ℕ). state_of t.files t.horizon x s.made) (sa ∙ sym ta) ∙ ap (λ (x : Budgeted). state_of t.files t.horizon t.asked x) made
+
+one_task_by : (c : Command) (ranges : Option ℕ) (horizon : ℕ) (contents : Contents) (t u : Task) → IsRawNet (raw_in horizon contents) → IsFirstTogether (raw_in horizon contents) None → IsTaskBy c ranges horizon contents t → IsTaskBy c ranges horizon contents u → t ≡ u
+one_task_by command.Solve ranges horizon contents t u read none is also = one_task_from command.Solve ranges (raw_in horizon contents) contents.further t u read none is also
+one_task_by command.Audit ranges horizon contents t u read none is also = one_task_from command.Audit ranges (raw_in horizon contents) contents.further t u read none is also
+one_task_by command.Check ranges horizon contents t u read none is also = one_task_from command.Check ranges (raw_in horizon contents) contents.further t u read none is also
+one_task_by command.Session ranges horizon contents (task.Session s a) (task.Session t b) read none is also =
+    ap (λ (x : State). task.Session x a) (one_session horizon ranges (files_in contents) s t read none is.0 also.0) ∙ ap (task.Session t) (is.1 ∙ sym also.1)
+one_task_by command.Session ranges horizon contents (task.Session s a) (task.Solve d f b) read none is also = absurd also
+one_task_by command.Session ranges horizon contents (task.Session s a) (task.Audit d p) read none is also = absurd also
+one_task_by command.Session ranges horizon contents (task.Session s a) (task.Check d b) read none is also = absurd also
+one_task_by command.Session ranges horizon contents (task.Solve d f b) u read none is also = absurd is
+one_task_by command.Session ranges horizon contents (task.Audit d p) u read none is also = absurd is
+one_task_by command.Session ranges horizon contents (task.Check d b) u read none is also = absurd is
+
 -- what a command does with files is one thing
 one_task : (c : Command) (ranges : Option ℕ) (horizon : ℕ) (contents : Contents) (a b : Result Task Stop) → IsTask c ranges horizon contents a → IsTask c ranges horizon contents b → a ≡ b
 one_task c ranges horizon contents (Ok t) (Ok u) is also =
     let passes = passes_behind c ranges horizon contents is.0.0 is.0.1 is.0.2 in
-    ap Ok (one_task_from c ranges (raw_in horizon contents) contents.further t u passes.0 passes.1 is.1 also.1)
+    ap Ok (one_task_by c ranges horizon contents t u passes.0 passes.1 is.1 also.1)
 one_task c ranges horizon contents (Ok t) (Err (stop.Refused f)) is also = (let same = one_refused c ranges horizon contents None (Some f) is.0 also in cc)
 one_task c ranges horizon contents (Ok t) (Err (stop.Words f)) is also = absurd also
 one_task c ranges horizon contents (Ok t) (Err (stop.TooLong w)) is also = absurd also
@@ -119,16 +158,36 @@ pub one_problem : (words : List (List ℕ)) (m : Held) (a b : Result Task Stop) 
 one_problem words m a b is also = one_asked (asked_of words) m a b is also
 
 -- what a command does is a task of its own
-pub own_task : (c : Command) (ranges : Option ℕ) (raw : RawNet) (further : List ℕ) (t : Task) → IsTaskFrom c ranges raw further t → IsTaskOf c t
-own_task command.Solve ranges raw further (task.Solve d f a) is = tt
-own_task command.Audit ranges raw further (task.Audit d p) is = tt
-own_task command.Check ranges raw further (task.Check d a) is = tt
-own_task command.Solve ranges raw further (task.Audit d p) is = absurd is
-own_task command.Solve ranges raw further (task.Check d a) is = absurd is
-own_task command.Audit ranges raw further (task.Solve d f a) is = absurd is
-own_task command.Audit ranges raw further (task.Check d a) is = absurd is
-own_task command.Check ranges raw further (task.Solve d f a) is = absurd is
-own_task command.Check ranges raw further (task.Audit d p) is = absurd is
+own_from : (c : Command) (ranges : Option ℕ) (raw : RawNet) (further : List ℕ) (t : Task) → IsTaskFrom c ranges raw further t → IsTaskOf c t
+own_from command.Solve ranges raw further (task.Solve d f a) is = tt
+own_from command.Audit ranges raw further (task.Audit d p) is = tt
+own_from command.Check ranges raw further (task.Check d a) is = tt
+own_from command.Solve ranges raw further (task.Audit d p) is = absurd is
+own_from command.Solve ranges raw further (task.Check d a) is = absurd is
+own_from command.Solve ranges raw further (task.Session s a) is = absurd is
+own_from command.Audit ranges raw further (task.Solve d f a) is = absurd is
+own_from command.Audit ranges raw further (task.Check d a) is = absurd is
+own_from command.Audit ranges raw further (task.Session s a) is = absurd is
+own_from command.Check ranges raw further (task.Solve d f a) is = absurd is
+own_from command.Check ranges raw further (task.Audit d p) is = absurd is
+own_from command.Check ranges raw further (task.Session s a) is = absurd is
+own_from command.Session ranges raw further t is = absurd is
+
+pub own_task : (c : Command) (ranges : Option ℕ) (horizon : ℕ) (contents : Contents) (t : Task) → IsTaskBy c ranges horizon contents t → IsTaskOf c t
+own_task command.Solve ranges horizon contents t is = own_from command.Solve ranges (raw_in horizon contents) contents.further t is
+own_task command.Audit ranges horizon contents t is = own_from command.Audit ranges (raw_in horizon contents) contents.further t is
+own_task command.Check ranges horizon contents t is = own_from command.Check ranges (raw_in horizon contents) contents.further t is
+own_task command.Session ranges horizon contents (task.Session s a) is = tt
+own_task command.Session ranges horizon contents (task.Solve d f a) is = absurd is
+own_task command.Session ranges horizon contents (task.Audit d p) is = absurd is
+own_task command.Session ranges horizon contents (task.Check d a) is = absurd is
+
+-- what a command other than a session does with records, it does with their files
+pub by_records : (c : Command) (ranges : Option ℕ) (horizon : ℕ) (contents : Contents) (t : Task) → IsTaskFrom c ranges (raw_in horizon contents) contents.further t → IsTaskBy c ranges horizon contents t
+by_records command.Solve ranges horizon contents t is = is
+by_records command.Audit ranges horizon contents t is = is
+by_records command.Check ranges horizon contents t is = is
+by_records command.Session ranges horizon contents t is = absurd is
 
 -- the network of records has as many stages as they
 pub stages_are : (raw : RawNet) (c : Checked) → IsNetworkOf raw c → IsChecked c → length c.network.stages ≡ length raw.stages

@@ -48,6 +48,10 @@ MayEnd command.Audit ending.NotAccepted = ⊥
 MayEnd command.Check ending.Infeasible = ⊥
 MayEnd command.Check ending.Spent = ⊥
 MayEnd command.Check ending.NotFeasible = ⊥
+MayEnd command.Session ending.Infeasible = ⊥
+MayEnd command.Session ending.Spent = ⊥
+MayEnd command.Session ending.NotAccepted = ⊥
+MayEnd command.Session ending.NotFeasible = ⊥
 MayEnd _ _ = ⊤
 
 -- an ending with its rows, the number of tables that were filled and the certificate that was made is the answer to words and to what

@@ -22,7 +22,7 @@ use Rattle.planner_top.specs.declared.task.Task.{Task}
 use Rattle.planner_top.specs.declared.answer.Ending.{Ending}
 use Rattle.planner_top.specs.declared.task.Task.TheVariants as task
 use Rattle.planner_top.specs.declared.answer.Ending.TheVariants as ending
-use Rattle.planner_top.specs.Certificates.{cert_bytes}
+use Rattle.cert_files.specs.Certificates.{cert_bytes}
 
 -- the ending of a search that ended so
 abbrev pub ending_by : Outcome → Ending
@@ -66,8 +66,9 @@ IsCheck ending.NotAccepted rows c bytes =
     (line : ℕ) × (rule : ℕ) × IsRefusedBytes c.network bytes line rule × (rows ≡ not_accepted_row line rule ∷ [])
 IsCheck _ rows c bytes = ⊥
 
--- a task that is done, with its lines, the number of tables that were filled for it and the bytes of the certificate that was made
+-- a task that is done at once, with its lines, the number of tables that were filled for it and the bytes of the certificate that was made
 abbrev pub IsDone : Ending → List (List (List ℕ)) → ℕ → Option (List ℕ) → Task → Type 0
 IsDone e rows filled cert (task.Solve c f budget) = IsSolution e rows filled cert c f budget
 IsDone e rows filled cert (task.Audit c plan) = IsAudit e rows c plan × (filled ≡ 0) × (cert ≡ None)
 IsDone e rows filled cert (task.Check c bytes) = IsCheck e rows c bytes × (filled ≡ 0) × (cert ≡ None)
+IsDone e rows filled cert (task.Session s script) = ⊥

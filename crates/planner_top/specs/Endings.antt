@@ -6,7 +6,7 @@ use Rattle.planner_top.specs.declared.answer.Ending.{Ending}
 use Rattle.planner_top.specs.declared.status.Status.{Status}
 use Rattle.planner_top.specs.declared.answer.Ending.TheVariants as ending
 use Rattle.planner_top.specs.declared.status.Status.TheVariants as status
-use Rattle.planner_top.specs.Certificates.{put_cert}
+use Rattle.cert_files.specs.Certificates.{put_cert}
 use Rattle.planner_top.specs.Answers.{IsAnswer}
 use Rattle.planner_top.specs.Runs.{Run, Follows}
 

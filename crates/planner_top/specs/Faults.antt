@@ -5,9 +5,9 @@ use Rattle.command_words.specs.Asked.{cert_name}
 use Rattle.stock_report.specs.Lines.{lines_of}
 use Rattle.stock_report.specs.Refusals.{fault_row, write_fault_row}
 use Rattle.command_words.specs.declared.file_word.FileWord.{FileWord}
-use Rattle.planner_top.specs.Certificates.{PutPart}
+use Rattle.cert_files.specs.Certificates.{PutPart}
 use Rattle.planner_top.specs.Problems.{IsUnreadOf}
-use Rattle.planner_top.specs.Runs.{Run, Follows, PartFollows}
+use Rattle.planner_top.specs.Runs.{Run, Follows, PartFollows, IsTold}
 use Rattle.planner_top.specs.Endings.{IsFound, IsGiven}
 
 -- a read failed, no rule on words did, and nothing was done to the shelf
@@ -64,10 +64,6 @@ pub record IsSilent (r : Run) : Type 0 where
 -- written
 abbrev pub IsLeft : Run → Type 0
 IsLeft r = IsStill r ⊎ IsSilent r ⊎ PrintsFront r
-
--- the whole line that a certificate could not be written follows what was written
-abbrev pub IsTold : Option (List ℕ) → Option (List ℕ) → ℕ → ℕ → Type 0
-IsTold before after faults faulted = (faulted ≡ faults) × Follows before (lines_of (write_fault_row ∷ [])) after
 
 -- a write failed: one of the output, or one of the certificate, which the line then says
 abbrev pub FailedWrite : Run → Type 0

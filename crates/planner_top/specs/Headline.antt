@@ -1,5 +1,5 @@
 -- The promise of the top call.
-use Rattle.std.specs.Prelude.{◌≡◌, ◌<◌, ◌≤◌, ◌+◌, ◌↔◌, ℕ, List, [], length, Some, None, Ok, Err, ◌⊎◌, ◌≢◌}
+use Rattle.std.specs.Prelude.{◌≡◌, ◌<◌, ◌≤◌, ◌+◌, ◌↔◌, ℕ, List, [], length, Some, None, Ok, Err, ◌⊎◌, ◌≢◌, ⊤}
 use Rattle.service_model.specs.declared.plan.Plan.{Plan}
 use Rattle.service_model.specs.declared.cert.Cert.{Cert}
 use Rattle.service_model.specs.Plans.{Feasible, Least, Empty, cost_of}
@@ -23,17 +23,18 @@ use Rattle.planner_top.specs.declared.task.Task.TheVariants as task
 use Rattle.planner_top.specs.declared.stop.Stop.TheVariants as stop
 use Rattle.planner_top.specs.declared.answer.Ending.TheVariants as ending
 use Rattle.planner_top.specs.declared.status.Status.TheVariants as status
-use Rattle.planner_top.specs.Certificates.{KeepsOthers}
 use Rattle.planner_top.specs.Answers.{IsProblem}
 use Rattle.planner_top.specs.Runs.{Run, IsLater}
 use Rattle.planner_top.specs.Endings.{status_of, Answered}
 use Rattle.planner_top.specs.Faults.{FailedRead, PrintsFront, IsLeft, FailedWrite}
+use Rattle.planner_top.specs.Sessions.{KeepsNames, IsCarried, IsCutByWrite, IsCutByMemory}
 
--- a task that can be done: there is a least plan, the plan is feasible, or the certificate is accepted
+-- a task that can be done: there is a least plan, the plan is feasible, or the certificate is accepted; a session always can
 abbrev pub CanBeDone : Task → Type 0
 CanBeDone (task.Solve c f budget) = (plan : Plan) × Least c.network plan
 CanBeDone (task.Audit c plan) = Feasible c.network plan
 CanBeDone (task.Check c bytes) = (v : Verdict) × IsAcceptedBytes c.network bytes v
+CanBeDone (task.Session s script) = ⊤
 
 -- a search within the budget ended before it found an answer: its forest drops an arc, two further ranges would pass the budget, which
 -- is less than enough, and its bound is above the cost of no feasible plan
@@ -51,6 +52,7 @@ abbrev pub DropsArc : Task → Type 0
 DropsArc (task.Solve c f budget) = f.dropped ≢ []
 DropsArc (task.Audit c plan) = ⊥
 DropsArc (task.Check c bytes) = ⊥
+DropsArc (task.Session s script) = ⊥
 
 -- the run ends so, or its budget was spent first, which happens only where the forest drops an arc
 abbrev pub EndsOrSpent : Ending → Ending → Task → Type 0
@@ -85,21 +87,21 @@ pub record IsSure (r : Run) : Type 0 where
 
 -- the promise of a run: what it answers, what each fault leaves, and that nothing else changes
 pub record Headline (r : Run) : Type 0 where
-  -- whatever the status, the shelf holds what it held, but for the certificate that the words ask for: where they ask for none, no
-  -- write to it failed
-  pub shelf : KeepsOthers (cert_name r.words) r.held r.held_after
+  -- whatever the status, the shelf holds what it held, but for the certificate that the words ask for, or those of a session's answers:
+  -- where they ask for none, no write to it failed
+  pub shelf : KeepsNames r.words r.held r.held_after
   pub writes : cert_name r.words ≡ None → r.writes_after ≡ r.writes
   -- no count falls, and that of filled tables keeps its room
   pub later : IsLater r
   -- where no call failed and memory sufficed there is an answer
   pub complete : IsSure r → (e : Ending) × (r.status ≡ status_of e)
   -- an answer is true of the words and files where the shelf tells, its lines follow what was written, its certificate is on the shelf
-  -- where the words ask for it, and no call failed
-  pub answer : (e : Ending) → r.status ≡ status_of e → Answered r e
+  -- where the words ask for it, and no call failed; the same holds of each answer of a session that was carried out
+  pub answer : (e : Ending) → r.status ≡ status_of e → Answered r e ⊎ ((e ≡ ending.Done) × IsCarried r)
   -- and it comes exactly where its cause is, on a shelf that tells what it holds
   pub exact : (e : Ending) (m : Held) → r.status ≡ status_of e → r.held ≡ Some m → Exactly r.words m e
   -- a read fault comes only where a read failed, a write fault only where a write of the certificate, which the line says, or of the
   -- output failed; what each leaves
   pub read_fault : r.status ≡ status.ReadFault → FailedRead r
-  pub write_fault : r.status ≡ status.WriteFault → FailedWrite r × PrintsFront r
-  pub no_memory : r.status ≡ status.NoMemory → IsLeft r
+  pub write_fault : r.status ≡ status.WriteFault → (FailedWrite r × PrintsFront r) ⊎ IsCutByWrite r
+  pub no_memory : r.status ≡ status.NoMemory → IsLeft r ⊎ IsCutByMemory r

@@ -2,11 +2,11 @@ pub mod Statuses
 pub mod Stops
 pub mod Tasks
 pub mod TaskCases
-pub mod Certificates
 pub mod Done
 pub mod Answers
 pub mod Problems
 pub mod Runs
+pub mod Sessions
 pub mod Endings
 pub mod Faults
 pub mod StatusCases

@@ -1,5 +1,5 @@
 -- What the calls give that a run is made of, with the count of failed reads before and after them.
-use Rattle.std.specs.Prelude.{◌≡◌, ◌≤◌, ◌+◌, ℕ, List, Option, Result, Ok, Err, IfSome, ⊤, IsOk}
+use Rattle.std.specs.Prelude.{◌≡◌, ◌≤◌, ◌+◌, ◌-◌, ℕ, List, Option, Result, Ok, Err, IfSome, ⊤, IsOk}
 use Rattle.gsm_outside.specs.Held.{Held}
 use Rattle.command_words.specs.Asked.{Asked, asked_of}
 use Rattle.command_words.specs.declared.command.Command.{Command}
@@ -12,14 +12,18 @@ use Rattle.planner_top.specs.declared.task.Task.{Task}
 use Rattle.planner_top.specs.declared.stop.Stop.{Stop}
 use Rattle.planner_top.specs.declared.stop.Unsolved.{Unsolved}
 use Rattle.planner_top.specs.declared.answer.Answer.{Answer}
+use Rattle.planner_top.specs.declared.answer.Reply.{Reply}
+use Rattle.planner_top.specs.declared.answer.Reply.TheVariants as reply
 use Rattle.planner_top.specs.declared.answer.Unanswered.{Unanswered}
 use Rattle.planner_top.specs.declared.task.Task.TheVariants as task
 use Rattle.planner_top.specs.declared.stop.Stop.TheVariants as stop
 use Rattle.planner_top.specs.declared.stop.Unsolved.TheVariants as unsolved
 use Rattle.planner_top.specs.declared.answer.Unanswered.TheVariants as unanswered
 use Rattle.planner_top.specs.Tasks.{IsReady}
-use Rattle.planner_top.specs.Certificates.{bytes_in}
-use Rattle.planner_top.specs.Answers.{IsAskedProblem, IsProblem, IsAnswer, IsTextOf}
+use Rattle.cert_files.specs.Certificates.{bytes_in}
+use Rattle.planner_top.specs.Done.{IsDone}
+use Rattle.planner_top.specs.Sessions.{IsSessionOf}
+use Rattle.planner_top.specs.Answers.{IsAskedProblem, IsProblem, IsAnswer, IsTextOf, IsRefusal}
 
 -- words are refused as such exactly where a rule on them fails
 abbrev pub TellsWords : List (List ℕ) → Stop → Type 0
@@ -36,6 +40,7 @@ abbrev pub IsTaskOf : Command → Task → Type 0
 IsTaskOf command.Solve (task.Solve c f budget) = ⊤
 IsTaskOf command.Audit (task.Audit c plan) = ⊤
 IsTaskOf command.Check (task.Check c bytes) = ⊤
+IsTaskOf command.Session (task.Session s script) = ⊤
 IsTaskOf _ _ = ⊥
 
 -- what a request asks to be done, or why there is nothing to do
@@ -55,10 +60,25 @@ ProblemCase words held before now (Err (unsolved.Stop s)) =
 ProblemCase words held before now (Err (unsolved.Fault word)) = (before ≤ now) × Rose before now × IsUnreadOf words held word
 ProblemCase words held before now (Err unsolved.NoMemory) = before ≤ now
 
--- the answer to the words, or why there is none, with the count of filled tables before and after
-abbrev pub AnswerCase : List (List ℕ) → Option Held → ℕ → ℕ → ℕ → ℕ → Result Answer Unanswered → Type 0
-AnswerCase words held before now ticks ticked (Ok a) =
+-- the answer where there is nothing to do, or why there is none
+abbrev pub UnsolvedCase : Unsolved → Result Answer Unanswered → Type 0
+UnsolvedCase (unsolved.Stop s) (Ok a) = IsTextOf a.text (λ rows. IsRefusal a.ending rows 0 (bytes_in a.cert) s)
+UnsolvedCase (unsolved.Stop s) (Err (unanswered.Fault word)) = ⊥
+UnsolvedCase (unsolved.Stop s) (Err unanswered.NoMemory) = ⊤
+UnsolvedCase (unsolved.Fault word) r = r ≡ Err (unanswered.Fault word)
+UnsolvedCase unsolved.NoMemory r = r ≡ Err unanswered.NoMemory
+
+-- what a task gives, with the count of filled tables before and after: the answer, or the session that is to be carried out
+abbrev pub ReplyCase : Task → ℕ → ℕ → Reply → Type 0
+ReplyCase t ticks ticked (reply.Answer a) = IsTextOf a.text (λ rows. IsDone a.ending rows (ticked - ticks) (bytes_in a.cert) t)
+ReplyCase t ticks ticked (reply.Session s script) = (t ≡ task.Session s script) × (ticked ≡ ticks)
+
+-- what the words ask for, or why there is no answer, with the count of filled tables before and after
+abbrev pub AnswerCase : List (List ℕ) → Option Held → ℕ → ℕ → ℕ → ℕ → Result Reply Unanswered → Type 0
+AnswerCase words held before now ticks ticked (Ok (reply.Answer a)) =
     (now ≡ before) × ((filled : ℕ) × (ticked ≡ ticks + filled) × IsTextOf a.text (λ rows. IsAnswer words held a.ending rows filled (bytes_in a.cert)))
+AnswerCase words held before now ticks ticked (Ok (reply.Session s script)) =
+    (now ≡ before) × (ticked ≡ ticks) × IsReady (task.Session s script) × IsSessionOf words held s script
 AnswerCase words held before now ticks ticked (Err (unanswered.Fault word)) =
     (before ≤ now) × Rose before now × IsUnreadOf words held word × (ticked ≡ ticks)
 AnswerCase words held before now ticks ticked (Err unanswered.NoMemory) =

@@ -1,5 +1,5 @@
 -- What the calls give that write and print, by the status.
-use Rattle.std.specs.Prelude.{◌≡◌, ◌≤◌, ℕ, List, [], ◌∷◌, Option, ◌⊎◌}
+use Rattle.std.specs.Prelude.{◌≡◌, ◌≤◌, ◌+◌, ℕ, List, [], ◌∷◌, Option, ◌⊎◌}
 use Rattle.gsm_outside.specs.Held.{Held}
 use Rattle.gsm_outside.specs.Causes.{Rose}
 use Rattle.stock_report.specs.Lines.{lines_of}
@@ -9,14 +9,18 @@ use Rattle.planner_top.specs.declared.answer.Ending.{Ending}
 use Rattle.planner_top.specs.declared.status.Status.{Status}
 use Rattle.planner_top.specs.declared.answer.Ending.TheVariants as ending
 use Rattle.planner_top.specs.declared.status.Status.TheVariants as status
-use Rattle.planner_top.specs.Certificates.{put_cert, PutPart}
-use Rattle.planner_top.specs.Runs.{Run, Follows, PartFollows, IsLater}
+use Rattle.cert_files.specs.Certificates.{put_cert, PutPart}
+use Rattle.planner_top.specs.Runs.{Run, Follows, PartFollows, IsTold, IsLater}
 use Rattle.planner_top.specs.Endings.{status_of, Answered}
-use Rattle.planner_top.specs.Faults.{FailedRead, PrintsFront, IsLeft, IsTold, FailedWrite}
+use Rattle.planner_top.specs.Faults.{FailedRead, PrintsFront, IsLeft, FailedWrite}
+use Rattle.edit_reuse.specs.Sessions.{State}
+use Rattle.script_run.specs.declared.halt.Halt.TheVariants as halt
+use Rattle.script_run.specs.Halts.{Outside, outside_of, IsCarriedOut, IsHalted}
+use Rattle.planner_top.specs.Sessions.{IsCarried, IsCutByWrite, IsCutByMemory}
 
 -- what a status says of a run
 abbrev pub StatusCase : Run → Status → Type 0
-StatusCase r status.Done = Answered r ending.Done
+StatusCase r status.Done = Answered r ending.Done ⊎ (IsLater r × IsCarried r)
 StatusCase r status.Infeasible = Answered r ending.Infeasible
 StatusCase r status.Spent = Answered r ending.Spent
 StatusCase r status.Words = Answered r ending.Words
@@ -25,8 +29,8 @@ StatusCase r status.TooLong = Answered r ending.TooLong
 StatusCase r status.NotAccepted = Answered r ending.NotAccepted
 StatusCase r status.NotFeasible = Answered r ending.NotFeasible
 StatusCase r status.ReadFault = (r.reads ≤ r.reads_after) × FailedRead r
-StatusCase r status.WriteFault = IsLater r × FailedWrite r × PrintsFront r
-StatusCase r status.NoMemory = IsLater r × IsLeft r
+StatusCase r status.WriteFault = IsLater r × ((FailedWrite r × PrintsFront r) ⊎ IsCutByWrite r)
+StatusCase r status.NoMemory = IsLater r × (IsLeft r ⊎ IsCutByMemory r)
 
 -- what the status of a run whose read failed says of its output
 abbrev pub FaultCase : FileWord → Option (List ℕ) → Option (List ℕ) → ℕ → ℕ → Status → Type 0
@@ -113,3 +117,16 @@ ToldCase before after faults faulted status.WriteFault =
     (faults ≤ faulted) × PartFollows before (lines_of (write_fault_row ∷ [])) after × (Rose faults faulted ⊎ IsTold before after faults faulted)
 ToldCase before after faults faulted status.NoMemory = (faults ≤ faulted) × PartFollows before (lines_of (write_fault_row ∷ [])) after
 ToldCase before after faults faulted _ = ⊥
+
+-- a session was halted for a certificate that could not be written, and what was then printed of that says the status
+abbrev pub IsHaltedBefore : State → List (List (List ℕ)) → Option (List ℕ) → Outside → Status → Type 0
+IsHaltedBefore s script name o t =
+    (written : Option (List ℕ)) × IsHalted halt.Shelf s script name (outside_of o.held o.held_after o.writes o.writes_after o.written written o.faults o.faults)
+    × ToldCase written o.written_after o.faults o.faults_after t
+
+-- what the status says of a script that was carried out, with the count of filled tables before and after
+abbrev pub CarriedCase : State → List (List (List ℕ)) → Option (List ℕ) → Outside → ℕ → ℕ → Status → Type 0
+CarriedCase s script name o ticks ticked status.Done = (filled : ℕ) × (ticked ≡ ticks + filled) × IsCarriedOut s script name o filled
+CarriedCase s script name o ticks ticked status.WriteFault = IsHalted halt.Sink s script name o ⊎ IsHaltedBefore s script name o status.WriteFault
+CarriedCase s script name o ticks ticked status.NoMemory = IsHalted halt.NoMemory s script name o ⊎ IsHaltedBefore s script name o status.NoMemory
+CarriedCase s script name o ticks ticked _ = ⊥

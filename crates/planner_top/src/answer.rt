@@ -3,8 +3,9 @@ ghost use Rattle.std.specs.Prelude.{◌≡◌};
 ghost use Rattle.planner_top.specs.declared.answer.Unanswered.TheVariants as unanswered;
 
 use command_words::FileWord;
+use edit_reuse::Session;
 use service_model::{Cert, NoMemory};
-use stage_file::Text;
+use stage_file::{Rows, Text};
 
 /// How a run ends where memory sufficed and no call on the outside failed.
 #[derive(Clone, Copy, Debug, PartialEq, Eq)]
@@ -28,6 +29,13 @@ pub struct Answer {
     pub ending: Ending,
     pub text: Text,
     pub cert: Option<Cert>,
+}
+
+/// What is given to the words: an answer, or the session that they ask for, with the rows of its script.
+#[derive(Drop)]
+pub enum Reply {
+    Answer(Answer),
+    Session(Session, Rows),
 }
 
 /// Why there is no answer.

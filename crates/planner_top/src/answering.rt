@@ -3,12 +3,9 @@ ghost use Rattle.std.specs.Prelude.{◌≡◌, ◌≤◌, ◌+◌, ◌-◌, ◌^
 ghost use Rattle.service_model.specs.declared.limits.TheConstants.{MAX_HORIZON};
 ghost use Rattle.command_words.specs.Requests.{request_as, IsRanges};
 ghost use Rattle.planner_top.specs.Tasks.{IsReady};
-ghost use Rattle.planner_top.specs.Certificates.{bytes_in};
-ghost use Rattle.planner_top.specs.Done.{IsDone};
-ghost use Rattle.planner_top.specs.Answers.{IsTextOf};
-ghost use Rattle.planner_top.specs.Problems.{ProblemCase, AskedCase, AnswerCase};
+ghost use Rattle.planner_top.specs.Problems.{ProblemCase, AskedCase, ReplyCase, AnswerCase, UnsolvedCase};
 
-use crate::answer::{Answer, Unanswered};
+use crate::answer::{Answer, Reply, Unanswered};
 use crate::audit::audit_of;
 use crate::check::check_of;
 use crate::filled::MOST_FILLED;
@@ -23,23 +20,32 @@ use service_model::NoMemory;
 use std::alloc::Global;
 use step_ledger::Steps;
 
-/// The answer to the words, with the text that is printed. The steps count the tables that are filled.
+/// The answer to the words, with the text that is printed, or the session that they ask for. The steps count the tables that are filled.
 pub fn answer_of<S: Shelf, L>(
     alloc: Global,
     words: &Words,
     shelf: &mut S,
     steps: &mut Steps<L>,
-) -> Result<Answer, Unanswered>
+) -> Result<Reply, Unanswered>
     requires { steps.old ≤ 2 ^ 62 }
     ensures case { AnswerCase words.now (S.held shelf.old) (S.read_faults shelf.old) (S.read_faults shelf.new) steps.old steps.new result }
     ensures held { S.held shelf.new ≡ S.held shelf.old }
     ensures writes { S.write_faults shelf.new ≡ S.write_faults shelf.old }
 {
     match problem_of(alloc, words, shelf) {
-        Ok(task) => Ok(done_of(alloc, &task, steps)?),
-        Err(Unsolved::Stop(stop)) => Ok(refusal_of(alloc, stop)?),
-        Err(Unsolved::Fault(file)) => Err(Unanswered::Fault(file)),
-        Err(Unsolved::NoMemory) => Err(Unanswered::NoMemory),
+        Ok(task) => Ok(reply_to(alloc, task, steps)?),
+        Err(unsolved) => Ok(Reply::Answer(unsolved_answer(alloc, unsolved)?)),
+    }
+}
+
+// The answer where there is nothing to do.
+fn unsolved_answer(alloc: Global, unsolved: Unsolved) -> Result<Answer, Unanswered>
+    ensures { UnsolvedCase unsolved result }
+{
+    match unsolved {
+        Unsolved::Stop(stop) => Ok(refusal_of(alloc, stop)?),
+        Unsolved::Fault(file) => Err(Unanswered::Fault(file)),
+        Unsolved::NoMemory => Err(Unanswered::NoMemory),
     }
 }
 
@@ -79,19 +85,27 @@ fn asked_problem<S: Shelf>(
     }
 }
 
-// The task done.
-fn done_of<L>(alloc: Global, task: &Task, steps: &mut Steps<L>) -> Result<Answer, NoMemory>
-    requires ready { IsReady task.now }
+// The task done, but for a session, which is carried out as its lines are printed.
+fn reply_to<L>(alloc: Global, task: Task, steps: &mut Steps<L>) -> Result<Reply, NoMemory>
+    requires ready { IsReady task }
     requires room { steps.old ≤ 2 ^ 62 }
-    ensures done { IfOk result (λ a. IsTextOf a.text (λ rows. IsDone a.ending rows (steps.new - steps.old) (bytes_in a.cert) task.now)) }
+    ensures done { IfOk result (ReplyCase task steps.old steps.new) }
     ensures later { steps.old ≤ steps.new }
     ensures few { steps.new ≤ steps.old + MOST_FILLED }
 {
     match task {
         Task::Solve(checked, forest, budget) => {
-            solution_of(alloc, checked, forest, *budget, steps)
+            let answer = solution_of(alloc, &checked, &forest, budget, steps)?;
+            Ok(Reply::Answer(answer))
         }
-        Task::Audit(checked, plan) => audit_of(alloc, checked, plan),
-        Task::Check(checked, bytes) => check_of(alloc, checked, bytes.as_slice()),
+        Task::Audit(checked, plan) => {
+            let answer = audit_of(alloc, &checked, &plan)?;
+            Ok(Reply::Answer(answer))
+        }
+        Task::Check(checked, bytes) => {
+            let answer = check_of(alloc, &checked, bytes.as_slice())?;
+            Ok(Reply::Answer(answer))
+        }
+        Task::Session(session, script) => Ok(Reply::Session(session, script)),
     }
 }

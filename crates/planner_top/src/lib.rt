@@ -23,9 +23,10 @@ mod tests_failed;
 #[cfg(test)]
 mod tests_loops;
 #[cfg(test)]
+mod tests_session;
+#[cfg(test)]
 mod tests_trees;
 mod top;
-mod write;
 
 pub use command_words::Words;
 pub use status::Status;

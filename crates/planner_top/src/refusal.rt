@@ -2,7 +2,7 @@
 ghost use Rattle.std.specs.Prelude.{◌≡◌, ◌∷◌, [], IfOk};
 ghost use Rattle.stock_report.specs.Lines.{lines_of};
 ghost use Rattle.planner_top.specs.Stops.{stop_row};
-ghost use Rattle.planner_top.specs.Certificates.{bytes_in};
+ghost use Rattle.cert_files.specs.Certificates.{bytes_in};
 ghost use Rattle.planner_top.specs.Answers.{IsRefusal, IsTextOf, ending_of};
 
 use crate::answer::{Answer, Ending};

@@ -7,7 +7,7 @@ ghost use Rattle.search_laws.specs.Own.{IsOwn};
 ghost use Rattle.search_laws.specs.Enough.{enough_of};
 ghost use Rattle.range_branch.specs.Solutions.{Solves};
 ghost use Rattle.cert_check.specs.Bytes.{IsAcceptedBytes};
-ghost use Rattle.planner_top.specs.Certificates.{cert_bytes};
+ghost use Rattle.cert_files.specs.Certificates.{cert_bytes};
 ghost use Rattle.planner_top.specs.Tasks.{IsBudget};
 
 use crate::filled::MOST_FILLED;

@@ -5,7 +5,7 @@ ghost use Rattle.tree_order.specs.Forest.{IsForest};
 ghost use Rattle.network_check.specs.Checked.{IsChecked};
 ghost use Rattle.stock_report.specs.Lines.{lines_of};
 ghost use Rattle.stock_report.specs.Answers.{solution_rows};
-ghost use Rattle.planner_top.specs.Certificates.{bytes_in};
+ghost use Rattle.cert_files.specs.Certificates.{bytes_in};
 ghost use Rattle.planner_top.specs.Tasks.{IsBudget};
 ghost use Rattle.planner_top.specs.Done.{IsSolution, ending_by};
 ghost use Rattle.planner_top.specs.Answers.{IsTextOf};

@@ -1,5 +1,5 @@
 // From the bytes of files to what is to be done with their network.
-ghost use Rattle.std.specs.Prelude.{◌≡◌, ◌≤◌, [], IfOk, length};
+ghost use Rattle.std.specs.Prelude.{◌≡◌, ◌≢◌, ◌≤◌, [], IfOk, length};
 ghost use Rattle.service_model.specs.declared.limits.TheConstants.{MAX_HORIZON};
 ghost use Rattle.stage_file.specs.Raw.{AreFiles, IsRawNet};
 ghost use Rattle.stage_file.specs.Rows.{rows_of_bytes};
@@ -11,11 +11,12 @@ ghost use Rattle.network_check.specs.Checked.{IsNetworkOf, IsChecked};
 ghost use Rattle.command_words.specs.Commands.{further_file};
 ghost use Rattle.request_files.specs.Lengths.{AreShort, IsWithin};
 ghost use Rattle.command_words.specs.Requests.{IsRanges};
-ghost use Rattle.planner_top.specs.Tasks.{files_in};
+ghost use Rattle.planner_top.specs.Tasks.{files_in, AreReadRows, AreReadFiles};
 ghost use Rattle.planner_top.specs.TaskCases.{TaskCase, TogetherCase, LastCase};
 
 use crate::stop::{Stop, Unsolved, unsolved_by};
 use command_words::Command;
+use edit_reuse::Session;
 use network_check::{Checked, budget_of, check_records};
 use request_files::{Contents, FILE_LIMIT};
 use service_model::{NoMemory, Plan};
@@ -32,6 +33,8 @@ pub enum Task {
     Audit(Checked, Plan),
     /// The bytes of a certificate are to be tested against the rules.
     Check(Checked, Text),
+    /// The rows of a script are to be carried out on the files of a session.
+    Session(Session, Rows),
 }
 
 /// What the command does with the network of files under a horizon, or the first rule on files that fails.
@@ -42,6 +45,48 @@ pub fn task_of(
     horizon: u16,
     contents: Contents,
 ) -> Result<Task, Unsolved>
+    requires ranges { IsRanges ranges }
+    requires horizon { horizon ≤ MAX_HORIZON }
+    requires short { AreShort command contents }
+    ensures { TaskCase command ranges horizon contents result }
+{
+    match command {
+        Command::Session => session_task(alloc, ranges, horizon, contents),
+        Command::Solve | Command::Audit | Command::Check => {
+            network_task(alloc, command, ranges, horizon, contents)
+        }
+    }
+}
+
+// The session over files under a horizon, or the first rule on files that fails.
+fn session_task(
+    alloc: Global,
+    ranges: Option<u32>,
+    horizon: u16,
+    contents: Contents,
+) -> Result<Task, Unsolved>
+    requires ranges { IsRanges ranges }
+    requires horizon { horizon ≤ MAX_HORIZON }
+    requires short { AreShort Command.Session contents }
+    ensures { TaskCase Command.Session ranges horizon contents result }
+{
+    let files = files_of(alloc, &contents)?;
+    let script = rows_in(alloc, contents.further.as_slice())?;
+    match Session::new(alloc, files, horizon, ranges) {
+        Ok(session) => Ok(Task::Session(session, script)),
+        Err(fault) => Err(unsolved_by(fault)),
+    }
+}
+
+// What another command does with the network of files under a horizon, or the first rule on files that fails.
+fn network_task(
+    alloc: Global,
+    command: Command,
+    ranges: Option<u32>,
+    horizon: u16,
+    contents: Contents,
+) -> Result<Task, Unsolved>
+    requires command { command ≢ Command.Session }
     requires ranges { IsRanges ranges }
     requires horizon { horizon ≤ MAX_HORIZON }
     requires short { AreShort command contents }
@@ -61,6 +106,7 @@ fn files_of(alloc: Global, contents: &Contents) -> Result<Files, NoMemory>
     requires arcs { length contents.now.arcs ≤ FILE_LIMIT }
     ensures value { IfOk result (λ files. files ≡ files_in contents.now) }
     ensures countable { IfOk result AreFiles }
+    ensures few { IfOk result AreReadFiles }
 {
     Ok(Files {
         stages: rows_in(alloc, contents.stages.as_slice())?,
@@ -74,6 +120,7 @@ fn rows_in(alloc: Global, bytes: &[u8]) -> Result<Rows, NoMemory>
     requires { length bytes.now ≤ FILE_LIMIT }
     ensures value { IfOk result (λ rows. rows ≡ rows_of_bytes bytes.now) }
     ensures countable { IfOk result AreCountable }
+    ensures few { IfOk result AreReadRows }
 {
     let rows = rows_of(alloc, bytes)?;
     Ok(rows)
@@ -87,6 +134,7 @@ fn task_in(
     raw: &RawNet,
     further: Text,
 ) -> Result<Task, Unsolved>
+    requires command { command ≢ Command.Session }
     requires ranges { IsRanges ranges }
     requires horizon { raw.now.horizon ≤ MAX_HORIZON }
     requires read { IsRawNet raw.now }
@@ -108,6 +156,7 @@ fn last_of(
     checked: Checked,
     further: Text,
 ) -> Result<Task, Unsolved>
+    requires command { command ≢ Command.Session }
     requires ranges { IsRanges ranges }
     requires read { IsRawNet raw.now }
     requires made { IsNetworkOf raw.now checked }
@@ -122,6 +171,7 @@ fn last_of(
             Err(fault) => Err(unsolved_by(fault)),
         },
         Command::Check => Ok(Task::Check(checked, further)),
+        Command::Session => unreachable!(),
     }
 }
 

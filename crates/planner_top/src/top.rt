@@ -1,20 +1,29 @@
 // The top call.
-ghost use Rattle.std.specs.Prelude.{◌≡◌, ◌≤◌, ◌^◌, None, OnOk, OnErr, option_map};
+ghost use Rattle.std.specs.Prelude.{◌≡◌, ◌≤◌, ◌+◌, ◌^◌, None, OnOk, OnErr, option_map, length};
+ghost use Rattle.stage_file.specs.Records.{AreCountable};
+ghost use Rattle.script_run.specs.Sizes.{MayGrow};
+ghost use Rattle.script_run.specs.Runs.{KeepsUnnumbered};
+ghost use Rattle.script_run.specs.Halts.{outside_of};
+ghost use Rattle.planner_top.specs.Tasks.{AreReadRows};
+ghost use Rattle.planner_top.specs.Sessions.{KeepsNames};
 ghost use Rattle.gsm_outside.specs.Causes.{HasCause};
 ghost use Rattle.command_words.specs.Asked.{cert_name};
-ghost use Rattle.planner_top.specs.Certificates.{bytes_in, KeepsOthers};
+ghost use Rattle.cert_files.specs.Certificates.{bytes_in};
 ghost use Rattle.planner_top.specs.Runs.{run_of, Follows, PartFollows};
 ghost use Rattle.planner_top.specs.Endings.{status_of};
-ghost use Rattle.planner_top.specs.StatusCases.{StatusCase, FaultCase, GivenCase, given_of, ToldCase};
+ghost use Rattle.planner_top.specs.StatusCases.{StatusCase, FaultCase, GivenCase, given_of, ToldCase, CarriedCase};
 ghost use Rattle.planner_top.specs.Headline.{Headline};
 
-use crate::answer::{Answer, Ending, Unanswered};
+use crate::answer::{Answer, Ending, Reply, Unanswered};
 use crate::answering::answer_of;
+use crate::filled::MOST_IN_SESSION;
 use crate::status::Status;
-use crate::write::write_cert;
+use cert_files::write_cert;
 use command_words::{FileWord, Words, cert_name};
+use edit_reuse::Session;
 use gsm_outside::{OutFault, Shelf, Sink};
-use stage_file::Text;
+use script_run::{Halt, carry_out};
+use stage_file::{Rows, Text};
 use std::alloc::Global;
 use step_ledger::Steps;
 use stock_report::{read_fault_text, write_fault_text};
@@ -44,13 +53,53 @@ fn run_cases<S: Shelf, K: Sink, L>(
 ) -> Status
     requires { steps.old ≤ 2 ^ 62 }
     ensures case { StatusCase (run_of words.now (S.held shelf.old) (S.held shelf.new) (S.read_faults shelf.old) (S.read_faults shelf.new) (S.write_faults shelf.old) (S.write_faults shelf.new) (K.written out.old) (K.written out.new) (K.faults out.old) (K.faults out.new) steps.old steps.new result) result }
-    ensures held { KeepsOthers (cert_name words.now) (S.held shelf.old) (S.held shelf.new) }
+    ensures held { KeepsNames words.now (S.held shelf.old) (S.held shelf.new) }
     ensures writes { cert_name words.now ≡ None → S.write_faults shelf.new ≡ S.write_faults shelf.old }
 {
     match answer_of(alloc, words, shelf, steps) {
-        Ok(answer) => give(alloc, shelf, out, cert_name(words), answer),
+        Ok(Reply::Answer(answer)) => give(alloc, shelf, out, cert_name(words), answer),
+        Ok(Reply::Session(mut session, script)) => {
+            carry(
+                alloc,
+                &mut session,
+                &script,
+                cert_name(words),
+                shelf,
+                out,
+                steps,
+            )
+        }
         Err(Unanswered::Fault(file)) => print_fault(alloc, out, file),
         Err(Unanswered::NoMemory) => Status::NoMemory,
+    }
+}
+
+// Carries out the script of a session.
+fn carry<S: Shelf, K: Sink, L>(
+    alloc: Global,
+    session: &mut Session,
+    script: &Rows,
+    name: Option<&str>,
+    shelf: &mut S,
+    out: &mut K,
+    steps: &mut Steps<L>,
+) -> Status
+    requires countable { AreCountable script.now }
+    requires read { AreReadRows script.now }
+    requires grows { MayGrow session.old.files (length script.now) }
+    requires room { steps.old ≤ 2 ^ 62 }
+    ensures case { CarriedCase session.old script.now (option_map (λ s. s.now) name.entry) (outside_of (S.held shelf.old) (S.held shelf.new) (S.write_faults shelf.old) (S.write_faults shelf.new) (K.written out.old) (K.written out.new) (K.faults out.old) (K.faults out.new)) steps.old steps.new result }
+    ensures reads { S.read_faults shelf.new ≡ S.read_faults shelf.old }
+    ensures kept { KeepsUnnumbered (option_map (λ s. s.now) name.entry) (S.held shelf.old) (S.held shelf.new) }
+    ensures unnamed { option_map (λ s. s.now) name.entry ≡ None → S.write_faults shelf.new ≡ S.write_faults shelf.old }
+    ensures later { steps.old ≤ steps.new }
+    ensures few { steps.new ≤ steps.old + MOST_IN_SESSION }
+{
+    match carry_out(alloc, session, script, name, shelf, out, steps) {
+        Ok(()) => Status::Done,
+        Err(Halt::Shelf) => print_unwritten(alloc, out),
+        Err(Halt::Sink) => Status::WriteFault,
+        Err(Halt::NoMemory) => Status::NoMemory,
     }
 }
 

@@ -1,5 +1,5 @@
-use Rattle.planner_top.proofs.WrittenFacts.{search_accepted}
-use Rattle.planner_top.proofs.FullFacts.{search_full}
+use Rattle.cert_files.proofs.WrittenFacts.{search_accepted}
+use Rattle.cert_files.proofs.FullFacts.{search_full}
 use Rattle.planner_top.proofs.search.cert_for.Goals as goal
 
 pub returns-clause-accepted : goal.returns-clause-accepted

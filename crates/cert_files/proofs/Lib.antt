@@ -1,0 +1,4 @@
+pub mod PutFacts
+pub mod WrittenFacts
+pub mod FullFacts
+pub mod VerdictFacts

@@ -1,0 +1,4 @@
+pub mod StepFacts
+pub mod RunFacts
+pub mod CarryFacts
+pub mod HaltFacts
