@@ -39,9 +39,9 @@ later_with r reads asks writes faults ticks few = record { reads = omega (arith,
 
 pub carried_status : (r : Run) (s : State) (script : List (List (List ℕ))) (t : Status) → r.reads_after ≡ r.reads → IsSessionOf r.words r.held s script → r.ticks ≤ r.ticks_after → r.ticks_after ≤ r.ticks + MOST_IN_SESSION
     → CarriedCase s script (cert_name r.words) (outside_in r) r.ticks r.ticks_after t → StatusCase r t
-carried_status r s script status.Done reads of ticks few (filled, counted, out) =
-    let later = carried_later s script (cert_name r.words) (outside_in r) filled out in
-    inr (later_with r reads of.0 later.writes later.faults ticks few, (reads, (s, script, of, (filled, counted, out))))
+carried_status r s script status.Done reads of ticks few (last, filled, counted, out) =
+    let later = carried_later s last script (cert_name r.words) (outside_in r) filled out in
+    inr (later_with r reads of.0 later.writes later.faults ticks few, (reads, (s, script, of, (last, filled, counted, out))))
 carried_status r s script status.WriteFault reads of ticks few (inl halted) =
     let later = halted_later halt.Sink s script (cert_name r.words) (outside_in r) halted in
     (later_with r reads of.0 later.writes later.faults ticks few, inr (inl (reads, (s, script, of, halted))))

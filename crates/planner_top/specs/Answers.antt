@@ -38,7 +38,7 @@ ending_of (stop.Refused fault) = ending.Refused
 abbrev pub IsRefusal : Ending → List (List (List ℕ)) → ℕ → Option (List ℕ) → Stop → Type 0
 IsRefusal e rows filled cert s = (e ≡ ending_of s) × (rows ≡ stop_row s ∷ []) × (filled ≡ 0) × (cert ≡ None)
 
--- a command may end so
+-- a command may end so by one answer; a session that is done is carried out, and has no such answer
 abbrev pub MayEnd : Command → Ending → Type 0
 MayEnd command.Solve ending.NotFeasible = ⊥
 MayEnd command.Solve ending.NotAccepted = ⊥
@@ -48,6 +48,7 @@ MayEnd command.Audit ending.NotAccepted = ⊥
 MayEnd command.Check ending.Infeasible = ⊥
 MayEnd command.Check ending.Spent = ⊥
 MayEnd command.Check ending.NotFeasible = ⊥
+MayEnd command.Session ending.Done = ⊥
 MayEnd command.Session ending.Infeasible = ⊥
 MayEnd command.Session ending.Spent = ⊥
 MayEnd command.Session ending.NotAccepted = ⊥

@@ -38,7 +38,7 @@ abbrev pub IsCarried : Run → Type 0
 IsCarried r =
     (r.reads_after ≡ r.reads)
     × ((s : State) × (script : List (List (List ℕ))) × IsSessionOf r.words r.held s script
-    × ((filled : ℕ) × (r.ticks_after ≡ r.ticks + filled) × IsCarriedOut s script (cert_name r.words) (outside_in r) filled))
+    × ((last : State) × (filled : ℕ) × (r.ticks_after ≡ r.ticks + filled) × IsCarriedOut s last script (cert_name r.words) (outside_in r) filled))
 
 -- a session was halted, when the sink told so much
 abbrev pub IsHaltedAt : Run → Halt → Option (List ℕ) → ℕ → Type 0

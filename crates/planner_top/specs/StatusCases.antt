@@ -126,7 +126,7 @@ IsHaltedBefore s script name o t =
 
 -- what the status says of a script that was carried out, with the count of filled tables before and after
 abbrev pub CarriedCase : State → List (List (List ℕ)) → Option (List ℕ) → Outside → ℕ → ℕ → Status → Type 0
-CarriedCase s script name o ticks ticked status.Done = (filled : ℕ) × (ticked ≡ ticks + filled) × IsCarriedOut s script name o filled
+CarriedCase s script name o ticks ticked status.Done = (last : State) × (filled : ℕ) × (ticked ≡ ticks + filled) × IsCarriedOut s last script name o filled
 CarriedCase s script name o ticks ticked status.WriteFault = IsHalted halt.Sink s script name o ⊎ IsHaltedBefore s script name o status.WriteFault
 CarriedCase s script name o ticks ticked status.NoMemory = IsHalted halt.NoMemory s script name o ⊎ IsHaltedBefore s script name o status.NoMemory
 CarriedCase s script name o ticks ticked _ = ⊥

@@ -257,9 +257,9 @@ end_given name parts a written faults lines given same case =
 
 -- a session whose rows were all carried out ends, or is halted at its last line
 pub session_ends : (old at : State) (script : List (List (List ℕ))) (name : Option (List ℕ)) (a : Outside) (written : Option (List ℕ)) (faults ticks ticked : ℕ) (count : Count) (r : Result (Unit {0}) Halt) → IsSoFar old at script name a ticks ticked count
-    → EndCase count.lines a.written_after written a.faults_after faults r → CarryCase old script name (joined a (put_alone a written faults)) ticks ticked r
+    → EndCase count.lines a.written_after written a.faults_after faults r → CarryCase old at script name (joined a (put_alone a written faults)) ticks ticked r
 session_ends old at script name a written faults ticks ticked count (Ok done) far case =
-    (tables_in (certs_in far.parts), far.filled, record { parts = far.parts; last = at; run = far.run; given = end_given name far.parts a written faults count.lines far.given far.lines case; filled_is = refl })
+    (tables_in (certs_in far.parts), far.filled, record { parts = far.parts; run = far.run; given = end_given name far.parts a written faults count.lines far.given far.lines case; filled_is = refl })
 session_ends old at script name a written faults ticks ticked count (Err h) far case = record {
   done = script;
   later = [];

@@ -33,8 +33,8 @@ left_later halt.NoMemory at number later name parts o (inr (inr unput)) = unput_
 pub halted_later : (h : Halt) (s : State) (script : List (List (List ℕ))) (name : Option (List ℕ)) (o : Outside) → IsHalted h s script name o → IsLaterOutside o
 halted_later h s script name o is = left_later h is.at (length is.done + 1) is.later name is.parts o is.left
 
-pub carried_later : (s : State) (script : List (List (List ℕ))) (name : Option (List ℕ)) (o : Outside) (filled : ℕ) → IsCarriedOut s script name o filled → IsLaterOutside o
-carried_later s script name o filled is = given_later name is.parts _ o is.given
+pub carried_later : (s last : State) (script : List (List (List ℕ))) (name : Option (List ℕ)) (o : Outside) (filled : ℕ) → IsCarriedOut s last script name o filled → IsLaterOutside o
+carried_later s last script name o filled is = given_later name is.parts _ o is.given
 
 -- names without a number keep what they hold
 left_keeps : (h : Halt) (at : State) (number : ℕ) (later : List (List (List ℕ))) (name : Option (List ℕ)) (parts : List Part) (o : Outside) → IsLeftAt h at number later name parts o → KeepsUnnumbered name o.held o.held_after
@@ -44,6 +44,6 @@ left_keeps halt.NoMemory at number later name parts o (inl given) = parts_keep n
 left_keeps halt.NoMemory at number later name parts o (inr (inl begun)) = begun_keep name parts (bytes_in begun.0.cert) o.held o.held_after begun.2.held
 left_keeps halt.NoMemory at number later name parts o (inr (inr unput)) = parts_keep name (parts ++ unput.0 ∷ []) o.held o.held_after unput.2.held
 
-pub carry_keeps : (s : State) (script : List (List (List ℕ))) (name : Option (List ℕ)) (o : Outside) (ticks ticked : ℕ) (r : Result (Unit {0}) Halt) → CarryCase s script name o ticks ticked r → KeepsUnnumbered name o.held o.held_after
-carry_keeps s script name o ticks ticked (Ok done) is = (let out = is.2 in parts_keep name out.parts o.held o.held_after out.given.held)
-carry_keeps s script name o ticks ticked (Err h) is = left_keeps h is.at (length is.done + 1) is.later name is.parts o is.left
+pub carry_keeps : (s last : State) (script : List (List (List ℕ))) (name : Option (List ℕ)) (o : Outside) (ticks ticked : ℕ) (r : Result (Unit {0}) Halt) → CarryCase s last script name o ticks ticked r → KeepsUnnumbered name o.held o.held_after
+carry_keeps s last script name o ticks ticked (Ok done) is = (let out = is.2 in parts_keep name out.parts o.held o.held_after out.given.held)
+carry_keeps s last script name o ticks ticked (Err h) is = left_keeps h is.at (length is.done + 1) is.later name is.parts o is.left

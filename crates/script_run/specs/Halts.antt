@@ -80,10 +80,9 @@ IsLeftAt halt.NoMemory at number later name parts o =
     ⊎ ((part : Part) × IsNext at number later parts part × IsBegun name parts part o)
     ⊎ ((part : Part) × IsNext at number later parts part × IsUnput name parts part o)
 
--- a session was carried out to the end of its script, and so many tables were filled
-pub record IsCarriedOut (s : State) (script : List (List (List ℕ))) (name : Option (List ℕ)) (o : Outside) (filled : ℕ) : Type 0 where
+-- a session was carried out to the end of its script, which leaves it at another, and so many tables were filled
+pub record IsCarriedOut (s last : State) (script : List (List (List ℕ))) (name : Option (List ℕ)) (o : Outside) (filled : ℕ) : Type 0 where
   pub parts : List Part
-  pub last : State
   pub run : IsRun s 1 script parts last
   pub given : IsGiven name parts (rows_in parts ++ end_row parts ∷ []) o
   pub filled_is : filled ≡ tables_in (certs_in parts)
@@ -98,10 +97,10 @@ pub record IsHalted (h : Halt) (s : State) (script : List (List (List ℕ))) (na
   pub run : IsRun s 1 done parts at
   pub left : IsLeftAt h at (length done + 1) later name parts o
 
--- what carrying out a script gives, with the count of filled tables before and after
-abbrev pub CarryCase : State → List (List (List ℕ)) → Option (List ℕ) → Outside → ℕ → ℕ → Result (Unit {0}) Halt → Type 0
-CarryCase s script name o ticks ticked (Ok done) = (filled : ℕ) × (ticked ≡ ticks + filled) × IsCarriedOut s script name o filled
-CarryCase s script name o ticks ticked (Err h) = IsHalted h s script name o
+-- what carrying out a script gives, by the session and the count of filled tables before and after
+abbrev pub CarryCase : State → State → List (List (List ℕ)) → Option (List ℕ) → Outside → ℕ → ℕ → Result (Unit {0}) Halt → Type 0
+CarryCase s last script name o ticks ticked (Ok done) = (filled : ℕ) × (ticked ≡ ticks + filled) × IsCarriedOut s last script name o filled
+CarryCase s last script name o ticks ticked (Err h) = IsHalted h s script name o
 
 -- a part was given
 pub record IsPartGiven (name cert : Option (List ℕ)) (text : List ℕ) (o : Outside) : Type 0 where

@@ -41,7 +41,7 @@ pub fn carry_out<S: Shelf, K: Sink, L>(
     requires countable { AreCountable script.now }
     requires grows { MayGrow session.old.files (length script.now) }
     requires counts { steps.old + MOST_VALUES * length script.now ≤ 2 ^ 63 }
-    ensures case { CarryCase session.old script.now (option_map (λ n. n.now) name.entry) (outside_of (S.held shelf.old) (S.held shelf.new) (S.write_faults shelf.old) (S.write_faults shelf.new) (K.written out.old) (K.written out.new) (K.faults out.old) (K.faults out.new)) steps.old steps.new result }
+    ensures case { CarryCase session.old session.new script.now (option_map (λ n. n.now) name.entry) (outside_of (S.held shelf.old) (S.held shelf.new) (S.write_faults shelf.old) (S.write_faults shelf.new) (K.written out.old) (K.written out.new) (K.faults out.old) (K.faults out.new)) steps.old steps.new result }
     ensures kept { KeepsUnnumbered (option_map (λ n. n.now) name.entry) (S.held shelf.old) (S.held shelf.new) }
     ensures reads { S.read_faults shelf.new ≡ S.read_faults shelf.old }
     ensures later { steps.old ≤ steps.new }

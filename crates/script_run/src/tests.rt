@@ -70,7 +70,7 @@ fn carried<S: Shelf, K: Sink>(
 }
 
 // Each word once: accepted, with another number of fields, for a name that has no record, and for files on which a rule fails.
-const ROWS: [(&str, &str); 38] = [
+const ROWS: [(&str, &str); 41] = [
     ("solve", "solve,1,optimal,21,1,3\n"),
     ("solve,now", "edit,2,E2\n"),
     ("set-stage,C,lead,1", "edit,3,done\n"),
@@ -108,7 +108,10 @@ const ROWS: [(&str, &str); 38] = [
     ("drop-stage,C", "edit,35,F14,arcs,3,2\n"),
     (" , ", ""),
     ("sove", "edit,37,E1\n"),
-    ("solve", "solve,38,optimal,18,1,3\n"),
+    ("set-stage,A,bound,sum", "edit,38,done\n"),
+    ("drop-arc,A,B", "edit,39,F22,stages,2,6\n"),
+    ("set-stage,A,bound,t", "edit,40,done\n"),
+    ("solve", "solve,41,optimal,18,1,3\n"),
 ];
 
 #[test]
@@ -121,7 +124,7 @@ fn each_word_does_what_it_says(rt: HostRuntime) -> Result<(), Fail> {
         script.push(b'\n')?;
         wanted.extend_from_slice(line.as_bytes())?;
     }
-    wanted.extend_from_slice(b"end,37\n")?;
+    wanted.extend_from_slice(b"end,40\n")?;
     let mut shelf = SureShelf::new(alloc);
     let mut out = SureSink::new(alloc);
     let end = carried(alloc, script.as_slice(), None, &mut shelf, &mut out)?;

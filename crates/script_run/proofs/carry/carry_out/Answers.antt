@@ -62,4 +62,4 @@ pub returns-in-Err-clause-kept : goal.returns-in-Err-clause-kept
 returns-in-Err-clause-kept g c =
     let name : Option (List ℕ) = option_map (λ n. n.now) c.args.name in
     let whole : Outside = outside_of (g.S.Shelf.held c.args.shelf.now) (g.S.Shelf.held c.carry_row.new.shelf) (g.S.Shelf.write_faults c.args.shelf.now) (g.S.Shelf.write_faults c.carry_row.new.shelf) (g.K.Sink.written c.args.out.now) (g.K.Sink.written c.carry_row.new.out) (g.K.Sink.faults c.args.out.now) (g.K.Sink.faults c.carry_row.new.out) in
-    carry_keeps c.args.session.now c.args.script.now name whole c.args.steps.now c.carry_row.new.steps (Err c.in-Err.halt) (returns-in-Err-clause-case g c)
+    carry_keeps c.args.session.now c.carry_row.new.session c.args.script.now name whole c.args.steps.now c.carry_row.new.steps (Err c.in-Err.halt) (returns-in-Err-clause-case g c)
