@@ -17,21 +17,29 @@ fn line_of_stages(alloc: Global, script: &[u8]) -> Result<SureShelf, Fail> {
     Ok(shelf)
 }
 
-const SCRIPTS: [(&str, &str); 3] = [
-    (
-        "solve\nset-stage,C,lead,1\nsolve\nset-stage,A,lead,0\nsolve\nsolve\n",
-        "solve,1,optimal,21,1,3\nedit,2,done\nsolve,3,optimal,18,1,3\nedit,4,done\nsolve,5,optimal,15,1,3\nsolve,6,optimal,15,1,3\nend,6\n",
-    ),
-    (
-        "solve\nadd-arc,C,A\nsolve\n",
-        "solve,1,optimal,21,1,3\nedit,2,F20,stages,2,1\nsolve,3,optimal,21,1,3\nend,3\n",
-    ),
-    ("", "end,0\n"),
+// A script, and what is to be printed.
+struct Case<'a> {
+    script: &'a str,
+    text: &'a str,
+}
+
+const CASES: [Case<'static>; 3] = [
+    Case {
+        script: "solve\nset-stage,C,lead,1\nsolve\nset-stage,A,lead,0\nsolve\nsolve\n",
+        text: "solve,1,optimal,21,1,3\nedit,2,done\nsolve,3,optimal,18,1,3\nedit,4,done\nsolve,5,optimal,15,1,3\nsolve,6,optimal,15,1,3\nend,6\n",
+    },
+    Case {
+        script: "solve\nadd-arc,C,A\nsolve\n",
+        text: "solve,1,optimal,21,1,3\nedit,2,F20,stages,2,1\nsolve,3,optimal,21,1,3\nend,3\n",
+    },
+    Case {
+        script: "",
+        text: "end,0\n",
+    },
 ];
 
-#[test]
-fn a_session_answers_on_the_files_as_they_are(rt: HostRuntime) -> Result<(), Fail> {
-    let alloc = rt.alloc();
+fn session_over(alloc: Global, script: &str, out: &mut SureSink) -> Result<Status, Fail> {
+    let mut shelf = line_of_stages(alloc, script.as_bytes())?;
     let words = words_of(
         alloc,
         &[
@@ -43,11 +51,17 @@ fn a_session_answers_on_the_files_as_they_are(rt: HostRuntime) -> Result<(), Fai
             "script=e",
         ],
     )?;
-    for (script, text) in SCRIPTS {
-        let mut shelf = line_of_stages(alloc, script.as_bytes())?;
+    Ok(run_once(alloc, &words, &mut shelf, out))
+}
+
+#[test]
+fn a_session_answers_on_the_files_as_they_are(rt: HostRuntime) -> Result<(), Fail> {
+    let alloc = rt.alloc();
+    for case in &CASES {
         let mut out = SureSink::new(alloc);
-        let status = run_once(alloc, &words, &mut shelf, &mut out);
-        assert_eq!(rt; (status, out.written()), (Status::Done, text.as_bytes()));
+        let status = session_over(alloc, case.script, &mut out)?;
+        let got = (status, out.written());
+        assert_eq!(rt; got, (Status::Done, case.text.as_bytes()));
     }
     Ok(())
 }
