@@ -14,6 +14,7 @@ pub const AUDIT: Request<'static> = Request {
     cert: None,
     horizon: 2,
     ranges: None,
+    trial: None,
 };
 
 // What `session` asks of four files, one of them the script.
@@ -26,6 +27,7 @@ const SESSION: Request<'static> = Request {
     cert: None,
     horizon: 2,
     ranges: None,
+    trial: None,
 };
 
 fn shelf_with(alloc: Global, stages: &[u8]) -> Result<SureShelf, Fail> {

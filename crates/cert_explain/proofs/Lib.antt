@@ -1,0 +1,3 @@
+mod CertFacts
+mod SplitFacts
+mod ExplainFacts

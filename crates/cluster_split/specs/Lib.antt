@@ -1,0 +1,5 @@
+pub mod Clusters
+pub mod Tops
+pub mod Places
+pub mod Numbers
+pub mod Layouts

@@ -1,0 +1,5 @@
+pub mod Draws
+pub mod Joins
+pub mod Makes
+pub mod Networks
+pub mod Words
