@@ -1,20 +1,24 @@
 -- What the words of a command line ask for.
-use Rattle.std.specs.Prelude.{ℕ, List, [], ◌∷◌, drop, Option, Some, None, Result, Ok, Err, unwrap_or, if◌then◌else◌}
-use Rattle.service_model.specs.declared.limits.TheConstants.{MAX_HORIZON}
+use Rattle.std.specs.Prelude.{ℕ, List, [], ◌∷◌, drop, Option, Some, None, Result, Ok, Err, unwrap_or, Bool, true, false, if◌then◌else◌}
+use Rattle.service_model.specs.declared.limits.TheConstants.{MAX_HORIZON, MAX_STAGES}
 use Rattle.service_model.specs.declared.cert_rules.TheConstants.{MAX_BUDGET}
 use Rattle.gsm_nums.specs.Whole.{whole_of, without_spaces}
 use Rattle.gsm_nums.specs.declared.whole.NumFault.{NumFault}
+use Rattle.command_words.specs.declared.limits.TheConstants.{MAX_SEED, MAX_EXTRA}
+use Rattle.command_words.specs.declared.asked.TrialNumbers.{TrialNumbers}
 use Rattle.command_words.specs.declared.command.Command.{Command}
+use Rattle.command_words.specs.declared.command.Key.{Key}
 use Rattle.command_words.specs.declared.command.Command.TheVariants.{Solve}
-use Rattle.command_words.specs.declared.command.Key.TheVariants.{Stages, Tables, Arcs, Horizon, Ranges}
+use Rattle.command_words.specs.declared.command.Key.TheVariants.{Stages, Tables, Arcs, Horizon, Ranges, Seed, Size, Extra}
 use Rattle.command_words.specs.declared.word_fault.WordFault.{WordFault}
 use Rattle.command_words.specs.declared.file_word.FileWord.{FileWord}
-use Rattle.command_words.specs.Commands.{key_text, command_named, file_key, further_file, written_file}
+use Rattle.command_words.specs.Commands.{key_text, command_named, file_key, reads_network, further_file, written_file}
 use Rattle.command_words.specs.Words.{has_key, value_at}
 use Rattle.command_words.specs.WordRules.{word_fault}
 
 -- a command, the names of the three files of a network, of the command's further file, if it has one, and of the certificate
--- that is to be written, if one is asked for, a horizon, and a budget of ranges, if one is asked for
+-- that is to be written, if one is asked for, a horizon, a budget of ranges, if one is asked for, and the numbers that a trial network
+-- is made from, where the command reads no network
 pub record Asked : Type 0 where
   pub command : Command
   pub stages : List ℕ
@@ -24,6 +28,7 @@ pub record Asked : Type 0 where
   pub cert : Option (List ℕ)
   pub horizon : ℕ
   pub ranges : Option ℕ
+  pub trial : Option TrialNumbers
 
 -- the number that was read, and another where none was
 abbrev pub or_other : ℕ → Result ℕ NumFault → ℕ
@@ -48,17 +53,32 @@ abbrev pub written_name : Option FileWord → List (List ℕ) → Option (List �
 written_name None later = None
 written_name (Some word) later = if has_key later (key_text (file_key word)) then Some (value_at (file_key word) later) else None
 
+-- the name of one of the three files of a network, none where the command reads no network
+abbrev pub network_name : Bool → Key → List (List ℕ) → List ℕ
+network_name true key later = value_at key later
+network_name false key later = []
+
+-- the numbers that a trial network is made from, where the command reads no network
+abbrev pub trial_in : Bool → List (List ℕ) → Option TrialNumbers
+trial_in true later = None
+trial_in false later = Some (record {
+  seed = number_in 0 MAX_SEED (value_at Seed later);
+  stages = number_in 1 MAX_STAGES (value_at Size later);
+  extra = number_in 0 MAX_EXTRA (value_at Extra later);
+})
+
 -- what a command and the words behind it ask for
 abbrev pub asked_by : Command → List (List ℕ) → Asked
 asked_by command later = record {
   command = command;
-  stages = value_at Stages later;
-  tables = value_at Tables later;
-  arcs = value_at Arcs later;
+  stages = network_name (reads_network command) Stages later;
+  tables = network_name (reads_network command) Tables later;
+  arcs = network_name (reads_network command) Arcs later;
   further = further_name (further_file command) later;
   cert = written_name (written_file command) later;
   horizon = number_in 0 MAX_HORIZON (value_at Horizon later);
   ranges = ranges_in later;
+  trial = trial_in (reads_network command) later;
 }
 
 -- what is asked for, or the rule that fails

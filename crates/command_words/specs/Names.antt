@@ -2,7 +2,7 @@
 use Rattle.std.specs.Prelude.{ℕ, nat_eq, Bool, List, ◌++◌, codes, decimal, bytes_eq}
 use Rattle.std.specs.List.{starts_with}
 use Rattle.command_words.specs.declared.command.Command.{Command}
-use Rattle.command_words.specs.declared.command.Command.TheVariants.{Solve, Session, Audit, Check}
+use Rattle.command_words.specs.declared.command.Command.TheVariants.{Solve, Session, Audit, Check, Explain, Clusters, Trial}
 use Rattle.command_words.specs.declared.file_word.Naming.{Naming}
 use Rattle.command_words.specs.declared.file_word.Naming.TheVariants.{Whole, Numbered}
 
@@ -12,6 +12,9 @@ naming Solve = Whole
 naming Session = Numbered
 naming Audit = Whole
 naming Check = Whole
+naming Explain = Whole
+naming Clusters = Whole
+naming Trial = Whole
 
 -- the name of the file of answer k, from 1 on, under the name that the words give
 abbrev pub answer_name : Naming → List ℕ → ℕ → List ℕ

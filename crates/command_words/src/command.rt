@@ -1,10 +1,11 @@
 // The commands with their keys: what may stand on a command line.
 ghost use Rattle.std.specs.Prelude.{◌≡◌};
-ghost use Rattle.command_words.specs.Commands.{command_named, required_keys, further_keys, key_text, value_kind, file_key, further_file, written_file, IsReadable};
+ghost use Rattle.command_words.specs.Commands.{command_named, required_keys, further_keys, key_text, value_kind, file_key, reads_network, further_file, written_file, IsReadable};
 
 use crate::file_word::FileWord;
-use service_model::MAX_HORIZON;
+use crate::limits::{MAX_EXTRA, MAX_SEED};
 use service_model::cert_rules::MAX_BUDGET;
+use service_model::{MAX_HORIZON, MAX_STAGES};
 
 /// What the first word asks for.
 #[derive(Clone, Copy, Debug, PartialEq, Eq)]
@@ -17,6 +18,12 @@ pub enum Command {
     Audit,
     /// Whether a certificate is accepted, or which rule fails on it.
     Check,
+    /// What an accepted certificate says: how ranges were cut, and what binds the plan.
+    Explain,
+    /// Where a network is entangled: its bridges and clusters.
+    Clusters,
+    /// The least plan of a network that is made from a number.
+    Trial,
 }
 
 /// A key of a command. Two keys of different commands may have one text.
@@ -32,6 +39,12 @@ pub enum Key {
     Script,
     Plan,
     Cert,
+    /// The number from which a trial network is made.
+    Seed,
+    /// How many stages a trial network has.
+    Size,
+    /// How many pairs of its stages are drawn beside the arcs that hold it together.
+    Extra,
 }
 
 /// What the value behind a key may be.
@@ -55,6 +68,12 @@ pub fn command_named(word: &str) -> Option<Command>
         Some(Command::Audit)
     } else if word.as_bytes() == b"check".as_slice() {
         Some(Command::Check)
+    } else if word.as_bytes() == b"explain".as_slice() {
+        Some(Command::Explain)
+    } else if word.as_bytes() == b"clusters".as_slice() {
+        Some(Command::Clusters)
+    } else if word.as_bytes() == b"trial".as_slice() {
+        Some(Command::Trial)
     } else {
         None
     }
@@ -74,7 +93,11 @@ pub fn required_keys(command: Command) -> &'static [Key]
             Key::Script,
         ],
         Command::Audit => &[Key::Stages, Key::Tables, Key::Arcs, Key::Horizon, Key::Plan],
-        Command::Check => &[Key::Stages, Key::Tables, Key::Arcs, Key::Horizon, Key::Cert],
+        Command::Check | Command::Explain => {
+            &[Key::Stages, Key::Tables, Key::Arcs, Key::Horizon, Key::Cert]
+        }
+        Command::Clusters => &[Key::Stages, Key::Tables, Key::Arcs, Key::Horizon],
+        Command::Trial => &[Key::Seed, Key::Size, Key::Extra, Key::Horizon],
     }
 }
 
@@ -84,7 +107,8 @@ pub fn further_keys(command: Command) -> &'static [Key]
 {
     match command {
         Command::Solve | Command::Session => &[Key::Ranges, Key::Cert],
-        Command::Audit | Command::Check => &[],
+        Command::Audit | Command::Check | Command::Explain | Command::Clusters => &[],
+        Command::Trial => &[Key::Ranges],
     }
 }
 
@@ -101,6 +125,9 @@ pub fn key_text(key: Key) -> &'static str
         Key::Script => "script",
         Key::Plan => "plan",
         Key::Cert => "cert",
+        Key::Seed => "seed",
+        Key::Size => "stages",
+        Key::Extra => "extra",
     }
 }
 
@@ -115,6 +142,9 @@ pub fn value_kind(key: Key) -> ValueKind
         }
         Key::Horizon => ValueKind::WholeNumber(0, MAX_HORIZON as u64),
         Key::Ranges => ValueKind::WholeNumber(1, MAX_BUDGET as u64),
+        Key::Seed => ValueKind::WholeNumber(0, MAX_SEED),
+        Key::Size => ValueKind::WholeNumber(1, MAX_STAGES as u64),
+        Key::Extra => ValueKind::WholeNumber(0, MAX_EXTRA as u64),
     }
 }
 
@@ -132,15 +162,26 @@ pub fn file_key(file: FileWord) -> Key
     }
 }
 
+/// Whether a command reads the three files of a network.
+pub fn reads_network(command: Command) -> bool
+    ensures { result ≡ reads_network command }
+{
+    match command {
+        Command::Solve | Command::Session | Command::Audit => true,
+        Command::Check | Command::Explain | Command::Clusters => true,
+        Command::Trial => false,
+    }
+}
+
 /// The file that a command reads behind the three of its network.
 pub fn further_file(command: Command) -> Option<FileWord>
     ensures { result ≡ further_file command }
 {
     match command {
-        Command::Solve => None,
+        Command::Solve | Command::Clusters | Command::Trial => None,
         Command::Session => Some(FileWord::Script),
         Command::Audit => Some(FileWord::Plan),
-        Command::Check => Some(FileWord::Cert),
+        Command::Check | Command::Explain => Some(FileWord::Cert),
     }
 }
 
@@ -150,6 +191,7 @@ pub fn written_file(command: Command) -> Option<FileWord>
 {
     match command {
         Command::Solve | Command::Session => Some(FileWord::Cert),
-        Command::Audit | Command::Check => None,
+        Command::Audit | Command::Check | Command::Explain => None,
+        Command::Clusters | Command::Trial => None,
     }
 }

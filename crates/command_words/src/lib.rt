@@ -4,6 +4,7 @@
 mod asked;
 mod command;
 mod file_word;
+pub mod limits;
 mod names;
 mod request;
 #[cfg(test)]
@@ -13,8 +14,8 @@ pub mod word_rules;
 mod word_tests;
 mod words;
 
-pub use asked::Request;
-pub use command::{Command, further_file};
+pub use asked::{Request, TrialNumbers};
+pub use command::{Command, further_file, reads_network};
 pub use file_word::{FileWord, Naming};
 pub use names::{answer_name, naming};
 pub use request::{cert_name, request_of};

@@ -14,6 +14,7 @@ pub fn naming(command: Command) -> Naming
     match command {
         Command::Session => Naming::Numbered,
         Command::Solve | Command::Audit | Command::Check => Naming::Whole,
+        Command::Explain | Command::Clusters | Command::Trial => Naming::Whole,
     }
 }
 

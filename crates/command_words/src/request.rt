@@ -1,20 +1,23 @@
 // What the words ask for.
-ghost use Rattle.std.specs.Prelude.{◌≡◌, ◌≤◌, ◌^◌, drop, option_map, unwrap_or};
-ghost use Rattle.service_model.specs.declared.limits.TheConstants.{MAX_HORIZON};
+ghost use Rattle.std.specs.Prelude.{◌≡◌, ◌≤◌, ◌^◌, drop, option_map, unwrap_or, IfSome};
+ghost use Rattle.service_model.specs.declared.limits.TheConstants.{MAX_HORIZON, MAX_STAGES};
 ghost use Rattle.command_words.specs.Words.{texts, value_at};
-ghost use Rattle.command_words.specs.Asked.{number_in, ranges_in, further_name, written_name, asked_by, command_of, asked_of, cert_name};
+ghost use Rattle.command_words.specs.Asked.{number_in, ranges_in, network_name, trial_in, further_name, written_name, asked_by, command_of, asked_of, cert_name};
 ghost use Rattle.command_words.specs.Commands.{command_named};
-ghost use Rattle.command_words.specs.Requests.{request_as, IsRanges, RequestCase};
+ghost use Rattle.command_words.specs.Requests.{request_as, IsRanges, IsTrialNumbers, IsRequest, RequestCase};
 
-use crate::asked::Request;
-use crate::command::{Command, Key, command_named, file_key, further_file, key_text, written_file};
+use crate::asked::{Request, TrialNumbers};
+use crate::command::{
+    Command, Key, command_named, file_key, further_file, key_text, reads_network, written_file,
+};
 use crate::file_word::FileWord;
+use crate::limits::{MAX_EXTRA, MAX_SEED};
 use crate::word_fault::{WordFault, word_fault};
 use crate::word_tests::{has_key, value_at};
 use crate::words::Words;
 use gsm_nums::read_whole;
-use service_model::MAX_HORIZON;
 use service_model::cert_rules::MAX_BUDGET;
+use service_model::{MAX_HORIZON, MAX_STAGES};
 
 /// What the words ask for, their keys in any order, or the first rule on words that fails.
 #[tactic(auto, unfolding(crate::specs::Asked::asked_of))]
@@ -40,8 +43,7 @@ pub fn cert_name(words: &Words) -> Option<&str>
 
 fn request_in(words: &[String]) -> Request<'_>
     ensures value { request_as result ≡ asked_by (command_of (texts words.now)) (drop 1 (texts words.now)) }
-    ensures horizon { result.horizon ≤ MAX_HORIZON }
-    ensures ranges { IsRanges result.ranges }
+    ensures known { IsRequest result }
 {
     match words {
         [first, later @ ..] => request_by(command_or_solve(first.as_str()), later),
@@ -58,19 +60,44 @@ fn command_or_solve(word: &str) -> Command
 
 fn request_by(command: Command, later: &[String]) -> Request<'_>
     ensures value { request_as result ≡ asked_by command (texts later.now) }
-    ensures horizon { result.horizon ≤ MAX_HORIZON }
-    ensures ranges { IsRanges result.ranges }
+    ensures known { IsRequest result }
 {
+    let network = reads_network(command);
     Request {
         command,
-        stages: value_at(Key::Stages, later),
-        tables: value_at(Key::Tables, later),
-        arcs: value_at(Key::Arcs, later),
+        stages: network_name(network, Key::Stages, later),
+        tables: network_name(network, Key::Tables, later),
+        arcs: network_name(network, Key::Arcs, later),
         further: further_name(further_file(command), later),
         cert: written_name(written_file(command), later),
         horizon: horizon_in(later),
         ranges: ranges_in(later),
+        trial: trial_in(network, later),
     }
+}
+
+// The name of one of the three files of a network.
+fn network_name(network: bool, key: Key, later: &[String]) -> &str
+    ensures { result.now ≡ network_name network key (texts later.now) }
+{
+    if network { value_at(key, later) } else { "" }
+}
+
+// The numbers that a trial network is made from, where the command reads no network.
+fn trial_in(network: bool, later: &[String]) -> Option<TrialNumbers>
+    ensures value { result ≡ trial_in network (texts later.now) }
+    ensures within { IfSome result IsTrialNumbers }
+{
+    if network {
+        return None;
+    }
+    let stages = number_in(1, MAX_STAGES as u64, value_at(Key::Size, later));
+    let extra = number_in(0, MAX_EXTRA as u64, value_at(Key::Extra, later));
+    Some(TrialNumbers {
+        seed: number_in(0, MAX_SEED, value_at(Key::Seed, later)),
+        stages: stages as u32,
+        extra: extra as u32,
+    })
 }
 
 // The name of a command's further file.

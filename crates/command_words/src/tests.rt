@@ -58,12 +58,85 @@ const CASES: [(&[&str], u8, u64); 19] = [
 ];
 
 #[test]
+fn each_rule_on_words_has_its_number(rt: HostRuntime) -> Result<(), Fail> {
+    let rules = [
+        NO_WORD,
+        NO_COMMAND,
+        NO_EQUALS,
+        UNKNOWN_KEY,
+        KEY_TWICE,
+        MISSING_KEY,
+        BAD_VALUE,
+        NAME_REUSED,
+    ];
+    assert_eq!(rt; rules, [1, 2, 3, 4, 5, 6, 7, 8]);
+    Ok(())
+}
+
+#[test]
 fn each_rule_on_words_has_its_place(rt: HostRuntime) -> Result<(), Fail> {
     let alloc = rt.alloc();
     for (all, rule, place) in CASES {
         let words = words_of(alloc, all)?;
         assert_eq!(rt; request_of(&words).err(), Some(WordFault { rule, place }));
     }
+    Ok(())
+}
+
+// Words of the commands that were not among the cases above, the first rule that fails on them, and the number of the word at fault.
+const TRIAL_CASES: [(&[&str], u8, u64); 8] = [
+    (&["trial", "seed=1", "stages=1001"], BAD_VALUE, 3),
+    (&["trial", "stages=0"], BAD_VALUE, 2),
+    (&["trial", "extra=4001"], BAD_VALUE, 2),
+    (&["trial", "seed=1000000000000000001"], BAD_VALUE, 2),
+    (&["trial", "seed=1", "horizon=5"], MISSING_KEY, 2),
+    (&["trial", "seed=1", "cert=c"], UNKNOWN_KEY, 3),
+    (&["clusters", "ranges=5"], UNKNOWN_KEY, 2),
+    (
+        &["explain", "stages=s", "tables=t", "arcs=a", "horizon=2"],
+        MISSING_KEY,
+        5,
+    ),
+];
+
+#[test]
+fn a_trial_has_keys_of_its_own(rt: HostRuntime) -> Result<(), Fail> {
+    let alloc = rt.alloc();
+    for (all, rule, place) in TRIAL_CASES {
+        let words = words_of(alloc, all)?;
+        assert_eq!(rt; request_of(&words).err(), Some(WordFault { rule, place }));
+    }
+    Ok(())
+}
+
+#[test]
+fn a_trial_asks_for_numbers_and_names_no_file(rt: HostRuntime) -> Result<(), Fail> {
+    let alloc = rt.alloc();
+    let words = words_of(
+        alloc,
+        &[
+            "trial",
+            "horizon=40",
+            "extra=4000",
+            "stages=1000",
+            "seed=1000000000000000000",
+        ],
+    )?;
+    let Ok(request) = request_of(&words) else {
+        return Err("a rule on the words fails".into());
+    };
+    let numbers = TrialNumbers {
+        seed: 1_000_000_000_000_000_000,
+        stages: 1_000,
+        extra: 4_000,
+    };
+    assert_eq!(rt; request.trial, Some(numbers));
+    assert_eq!(rt;
+        [request.stages, request.tables, request.arcs],
+        ["", "", ""]
+    );
+    let others = (request.command, request.horizon, request.ranges);
+    assert_eq!(rt; others, (Command::Trial, 40, None));
     Ok(())
 }
 

@@ -1,5 +1,5 @@
 -- A task that is done, or a refusal, is the answer.
-use Rattle.std.proofs.Common.{◌≡◌, ◌≤◌, ℕ, ◌+◌, ◌-◌, Bool, true, false, List, [], ◌∷◌, Option, Some, None, Result, Ok, Err, refl, sym, subst, ap, ◌∙◌, arith}
+use Rattle.std.proofs.Common.{◌≡◌, ◌≤◌, ℕ, ◌+◌, ◌-◌, Bool, true, false, List, [], ◌∷◌, Option, Some, None, Result, Ok, Err, refl, sym, subst, ap, ◌∙◌, ◌⊎◌, inl, inr, arith}
 use Rattle.std.specs.Option.{IfSome}
 use Rattle.std.specs.Result.{MatchResult, IsOk, IsErr}
 use Rattle.std.proofs.lemmas.Bool.{false≢true}
@@ -26,13 +26,21 @@ use Rattle.planner_top.specs.declared.stop.Unsolved.TheVariants as unsolved
 use Rattle.cert_files.specs.Certificates.{bytes_in}
 use Rattle.command_words.specs.Asked.{Asked, asked_of}
 use Rattle.planner_top.specs.Stops.{stop_row}
-use Rattle.planner_top.specs.Problems.{IsTaskOf, TellsWords, ProblemCase, ReplyCase, AnswerCase, UnsolvedCase}
+use Rattle.planner_top.specs.Ready.{IsReady, MayBeTold, search_command, check_command, command_of}
+use Rattle.planner_top.specs.Problems.{TellsWords, ProblemCase, ReplyCase, AnswerCase, UnsolvedCase}
 use Rattle.edit_reuse.specs.Sessions.{State}
 use Rattle.planner_top.specs.Sessions.{AsksSession}
 use Rattle.planner_top.specs.declared.answer.Reply.{Reply}
 use Rattle.planner_top.specs.declared.answer.Reply.TheVariants as reply
 use Rattle.planner_top.specs.Answers.{IsProblem, IsRefusal, MayEnd, ending_of, IsAnswer, IsTextOf}
-use Rattle.planner_top.specs.Done.{IsSolution, IsDone, ending_by}
+use Rattle.planner_top.specs.Done.{IsSolution, IsAudit, IsCheck, IsDone, ending_by}
+use Rattle.service_model.specs.declared.plan.Plan.{Plan}
+use Rattle.service_model.specs.Plans.{Feasible}
+use Rattle.service_model.specs.Verdicts.{TrueAs}
+use Rattle.planner_top.specs.declared.task.Report.{Report}
+use Rattle.planner_top.specs.declared.task.Report.TheVariants as report
+use Rattle.planner_top.specs.declared.task.Detail.{Detail}
+use Rattle.planner_top.specs.declared.task.Detail.TheVariants as detail
 
 -- how a network's solution may end
 abbrev is_solved : Ending → Bool
@@ -47,54 +55,85 @@ all_solved outcome.Infeasible = refl
 all_solved outcome.Spent = refl
 
 -- no solution ends otherwise
-not_solved : (e : Ending) (rows : List (List (List ℕ))) (filled : ℕ) (cert : Option (List ℕ)) (c : Checked) (f : Forest) (budget : ℕ) → IsSolution e rows filled cert c f budget → is_solved e ≡ false → ⊥
-not_solved e rows filled cert c f budget is none =
+not_solved : (e : Ending) (rows : List (List (List ℕ))) (filled : ℕ) (cert : Option (List ℕ)) (c : Checked) (f : Forest) (budget : ℕ) (how : Report) → IsSolution e rows filled cert c f budget how → is_solved e ≡ false → ⊥
+not_solved e rows filled cert c f budget how is none =
     (let one : is_solved e ≡ true = ap is_solved is.ending_is ∙ all_solved is.search.verdict.outcome in false≢true (sym none ∙ one))
 
+-- a network with a feasible plan is not found to have none
+has_plan : (e : Ending) (rows : List (List (List ℕ))) (filled : ℕ) (cert : Option (List ℕ)) (c : Checked) (f : Forest) (budget : ℕ) (how : Report) → IsSolution e rows filled cert c f budget how → e ≡ ending.Infeasible
+    → (p : Plan) → Feasible c.network p → ⊥
+has_plan e rows filled cert c f budget how is none p feasible = from is.search.verdict.outcome is.true_verdict (sym is.ending_is ∙ none)
+  where
+    from : (o : Outcome) → TrueAs o c.network is.search.verdict.bound is.search.verdict.plan → ending_by o ≡ ending.Infeasible → ⊥
+    from outcome.Optimal holds same = cc
+    from outcome.Infeasible holds same = holds.2 p feasible
+    from outcome.Spent holds same = cc
+
 not_words : (t : Task) (rows : List (List (List ℕ))) (filled : ℕ) (cert : Option (List ℕ)) → IsDone ending.Words rows filled cert t → ⊥
-not_words (task.Solve c f budget) rows filled cert is = not_solved ending.Words rows filled cert c f budget is refl
+not_words (task.Solve c f budget how) rows filled cert is = not_solved ending.Words rows filled cert c f budget how is refl
 not_words (task.Audit c plan) rows filled cert is = is.0
-not_words (task.Check c bytes) rows filled cert is = is.0
+not_words (task.Check c bytes d) rows filled cert is = is.0
+not_words (task.Clusters c) rows filled cert is = (let done = is.0.ending_is in cc)
 not_words (task.Session s script) rows filled cert is = is
 
-done_may_end : (c : Command) (t : Task) (e : Ending) (rows : List (List (List ℕ))) (filled : ℕ) (cert : Option (List ℕ)) → IsTaskOf c t → IsDone e rows filled cert t → MayEnd c e
-done_may_end command.Solve (task.Solve c f b) ending.NotFeasible rows filled cert own is = absurd (not_solved ending.NotFeasible rows filled cert c f b is refl)
-done_may_end command.Solve (task.Solve c f b) ending.NotAccepted rows filled cert own is = absurd (not_solved ending.NotAccepted rows filled cert c f b is refl)
-done_may_end command.Solve (task.Solve c f b) ending.Done rows filled cert own is = tt
-done_may_end command.Solve (task.Solve c f b) ending.Infeasible rows filled cert own is = tt
-done_may_end command.Solve (task.Solve c f b) ending.Spent rows filled cert own is = tt
-done_may_end command.Solve (task.Solve c f b) ending.Words rows filled cert own is = tt
-done_may_end command.Solve (task.Solve c f b) ending.Refused rows filled cert own is = tt
-done_may_end command.Solve (task.Solve c f b) ending.TooLong rows filled cert own is = tt
-done_may_end command.Audit (task.Audit c plan) ending.Infeasible rows filled cert own is = absurd is.0
-done_may_end command.Audit (task.Audit c plan) ending.Spent rows filled cert own is = absurd is.0
-done_may_end command.Audit (task.Audit c plan) ending.NotAccepted rows filled cert own is = absurd is.0
-done_may_end command.Audit (task.Audit c plan) ending.Done rows filled cert own is = tt
-done_may_end command.Audit (task.Audit c plan) ending.NotFeasible rows filled cert own is = tt
-done_may_end command.Audit (task.Audit c plan) ending.Words rows filled cert own is = absurd is.0
-done_may_end command.Audit (task.Audit c plan) ending.Refused rows filled cert own is = absurd is.0
-done_may_end command.Audit (task.Audit c plan) ending.TooLong rows filled cert own is = absurd is.0
-done_may_end command.Check (task.Check c bytes) ending.Infeasible rows filled cert own is = absurd is.0
-done_may_end command.Check (task.Check c bytes) ending.Spent rows filled cert own is = absurd is.0
-done_may_end command.Check (task.Check c bytes) ending.NotFeasible rows filled cert own is = absurd is.0
-done_may_end command.Check (task.Check c bytes) ending.Done rows filled cert own is = tt
-done_may_end command.Check (task.Check c bytes) ending.NotAccepted rows filled cert own is = tt
-done_may_end command.Check (task.Check c bytes) ending.Words rows filled cert own is = absurd is.0
-done_may_end command.Check (task.Check c bytes) ending.Refused rows filled cert own is = absurd is.0
-done_may_end command.Check (task.Check c bytes) ending.TooLong rows filled cert own is = absurd is.0
-done_may_end command.Session (task.Session s script) e rows filled cert own is = absurd is
-done_may_end command.Session (task.Solve c f b) e rows filled cert own is = absurd own
-done_may_end command.Session (task.Audit c plan) e rows filled cert own is = absurd own
-done_may_end command.Session (task.Check c bytes) e rows filled cert own is = absurd own
-done_may_end command.Solve (task.Session s script) e rows filled cert own is = absurd own
-done_may_end command.Audit (task.Session s script) e rows filled cert own is = absurd own
-done_may_end command.Check (task.Session s script) e rows filled cert own is = absurd own
-done_may_end command.Solve (task.Audit c plan) e rows filled cert own is = absurd own
-done_may_end command.Solve (task.Check c bytes) e rows filled cert own is = absurd own
-done_may_end command.Audit (task.Solve c f b) e rows filled cert own is = absurd own
-done_may_end command.Audit (task.Check c bytes) e rows filled cert own is = absurd own
-done_may_end command.Check (task.Solve c f b) e rows filled cert own is = absurd own
-done_may_end command.Check (task.Audit c plan) e rows filled cert own is = absurd own
+not_session : (how : Report) → search_command how ≡ command.Session → ⊥
+not_session report.Stages same = cc
+not_session (report.Trial seed) same = cc
+
+searched : (how : Report) → (search_command how ≡ command.Solve) ⊎ (search_command how ≡ command.Trial)
+searched report.Stages = inl refl
+searched (report.Trial seed) = inr refl
+
+-- the answer of a search may end so
+solution_may_end : (how : Report) (c : Checked) (f : Forest) (b : ℕ) (e : Ending) (rows : List (List (List ℕ))) (filled : ℕ) (cert : Option (List ℕ)) → MayBeTold how c.network → IsSolution e rows filled cert c f b how → MayEnd (search_command how) e
+solution_may_end how c f b ending.Done rows filled cert told is = not_session how
+solution_may_end report.Stages c f b ending.Infeasible rows filled cert told is = refl
+solution_may_end (report.Trial seed) c f b ending.Infeasible rows filled cert told is = absurd (has_plan ending.Infeasible rows filled cert c f b (report.Trial seed) is refl told.0 told.1)
+solution_may_end how c f b ending.Spent rows filled cert told is = searched how
+solution_may_end how c f b ending.NotAccepted rows filled cert told is = absurd (not_solved ending.NotAccepted rows filled cert c f b how is refl)
+solution_may_end how c f b ending.NotFeasible rows filled cert told is = absurd (not_solved ending.NotFeasible rows filled cert c f b how is refl)
+solution_may_end how c f b ending.Words rows filled cert told is = tt
+solution_may_end how c f b ending.Refused rows filled cert told is = tt
+solution_may_end how c f b ending.TooLong rows filled cert told is = tt
+
+audit_may_end : (c : Checked) (p : Plan) (e : Ending) (rows : List (List (List ℕ))) → IsAudit e rows c p → MayEnd command.Audit e
+audit_may_end c p ending.Done rows is = λ same. cc
+audit_may_end c p ending.Infeasible rows is = absurd is
+audit_may_end c p ending.Spent rows is = absurd is
+audit_may_end c p ending.NotAccepted rows is = absurd is
+audit_may_end c p ending.NotFeasible rows is = refl
+audit_may_end c p ending.Words rows is = tt
+audit_may_end c p ending.Refused rows is = tt
+audit_may_end c p ending.TooLong rows is = tt
+
+not_carried : (d : Detail) → check_command d ≡ command.Session → ⊥
+not_carried detail.Verdict same = cc
+not_carried detail.Explanation same = cc
+
+checked : (d : Detail) → (check_command d ≡ command.Check) ⊎ (check_command d ≡ command.Explain)
+checked detail.Verdict = inl refl
+checked detail.Explanation = inr refl
+
+check_may_end : (c : Checked) (bytes : List ℕ) (d : Detail) (e : Ending) (rows : List (List (List ℕ))) → IsCheck e rows c bytes d → MayEnd (check_command d) e
+check_may_end c bytes d ending.Done rows is = not_carried d
+check_may_end c bytes d ending.Infeasible rows is = absurd is
+check_may_end c bytes d ending.Spent rows is = absurd is
+check_may_end c bytes d ending.NotAccepted rows is = checked d
+check_may_end c bytes d ending.NotFeasible rows is = absurd is
+check_may_end c bytes d ending.Words rows is = tt
+check_may_end c bytes d ending.Refused rows is = tt
+check_may_end c bytes d ending.TooLong rows is = tt
+
+clusters_may_end : (e : Ending) → e ≡ ending.Done → MayEnd command.Clusters e
+clusters_may_end e same = subst (λ (x : Ending). MayEnd command.Clusters x) (sym same) (λ also. cc)
+
+-- a task that is done ends as its command may
+done_may_end : (t : Task) (e : Ending) (rows : List (List (List ℕ))) (filled : ℕ) (cert : Option (List ℕ)) → IsReady t → IsDone e rows filled cert t → MayEnd (command_of t) e
+done_may_end (task.Solve c f b how) e rows filled cert ready is = solution_may_end how c f b e rows filled cert ready.3 is
+done_may_end (task.Audit c plan) e rows filled cert ready is = audit_may_end c plan e rows is.0
+done_may_end (task.Check c bytes d) e rows filled cert ready is = check_may_end c bytes d e rows is.0
+done_may_end (task.Clusters c) e rows filled cert ready is = clusters_may_end e is.0.ending_is
+done_may_end (task.Session s script) e rows filled cert ready is = absurd is
 
 one_asked : (words : List (List ℕ)) (q r : Asked) → asked_of words ≡ Ok q → asked_of words ≡ Ok r → q ≡ r
 one_asked words q r is also = cc
@@ -110,29 +149,20 @@ told_done : (words : List (List ℕ)) (held : Option Held) (e : Ending) (rows : 
 told_done words None e rows filled cert t is done = tt
 told_done words (Some m) e rows filled cert t is done = (Ok t, is, done)
 
-pub done_answer : (words : List (List ℕ)) (held : Option Held) (e : Ending) (rows : List (List (List ℕ))) (filled : ℕ) (cert : Option (List ℕ)) (t : Task) → ((q : Asked) × (asked_of words ≡ Ok q) × IsTaskOf q.command t)
+pub done_answer : (words : List (List ℕ)) (held : Option Held) (e : Ending) (rows : List (List (List ℕ))) (filled : ℕ) (cert : Option (List ℕ)) (t : Task) → IsReady t → ((q : Asked) × (asked_of words ≡ Ok q) × (command_of t ≡ q.command))
     → IfSome held (λ m. IsProblem words m (Ok t)) → filled ≤ MOST_FILLED → IsDone e rows filled cert t → IsAnswer words held e rows filled cert
-done_answer words held e rows filled cert t asked is few done = record {
+done_answer words held e rows filled cert t ready asked is few done = record {
   words = (λ same. absurd (not_words t rows filled cert (subst (λ (x : Ending). IsDone x rows filled cert t) same done)), λ err. absurd (not_refused words asked.0 asked.1 err));
   rule = λ fault also. absurd (no_rule words asked.0 fault asked.1 also);
-  own = λ q also. done_may_end q.command t e rows filled cert (subst (λ (x : Asked). IsTaskOf x.command t) (one_asked words asked.0 q asked.1 also) asked.2) done;
+  own = λ q also. subst (λ (x : Command). MayEnd x e) (asked.2 ∙ ap (λ (x : Asked). x.command) (one_asked words asked.0 q asked.1 also)) (done_may_end t e rows filled cert ready done);
   few = few;
   told = told_done words held e rows filled cert t is done;
 }
 
 refused_may_end : (c : Command) (s : Stop) → MayEnd c (ending_of s)
-refused_may_end command.Solve (stop.Words fault) = tt
-refused_may_end command.Solve (stop.TooLong word) = tt
-refused_may_end command.Solve (stop.Refused fault) = tt
-refused_may_end command.Audit (stop.Words fault) = tt
-refused_may_end command.Audit (stop.TooLong word) = tt
-refused_may_end command.Audit (stop.Refused fault) = tt
-refused_may_end command.Check (stop.Words fault) = tt
-refused_may_end command.Check (stop.TooLong word) = tt
-refused_may_end command.Check (stop.Refused fault) = tt
-refused_may_end command.Session (stop.Words fault) = tt
-refused_may_end command.Session (stop.TooLong word) = tt
-refused_may_end command.Session (stop.Refused fault) = tt
+refused_may_end c (stop.Words fault) = tt
+refused_may_end c (stop.TooLong word) = tt
+refused_may_end c (stop.Refused fault) = tt
 
 told_refused : (words : List (List ℕ)) (held : Option Held) (e : Ending) (rows : List (List (List ℕ))) (filled : ℕ) (cert : Option (List ℕ)) (s : Stop) → IfSome held (λ m. IsProblem words m (Err s)) → IsRefusal e rows filled cert s
     → IfSome held (λ m. (problem : Result Task Stop) × IsProblem words m problem × MatchResult problem (IsDone e rows filled cert) (IsRefusal e rows filled cert))
@@ -184,14 +214,8 @@ unsolved_case words held before now ticks (unsolved.Fault word) r case is =
 unsolved_case words held before now ticks unsolved.NoMemory r case is =
     subst (λ (x : Result Answer Unanswered). AnswerCase words held before now ticks ticks (reply_with x)) (sym is) (case, omega arith, omega arith)
 
-session_asked : (words : List (List ℕ)) (s : State) (script : List (List (List ℕ))) → ((q : Asked) × (asked_of words ≡ Ok q) × IsTaskOf q.command (task.Session s script)) → AsksSession words
-session_asked words s script (q, asked, own) = (q, asked, from q.command own)
-  where
-    from : (c : Command) → IsTaskOf c (task.Session s script) → c ≡ command.Session
-    from command.Session own = refl
-    from command.Solve own = absurd own
-    from command.Audit own = absurd own
-    from command.Check own = absurd own
+session_asked : (words : List (List ℕ)) (s : State) (script : List (List (List ℕ))) → ((q : Asked) × (asked_of words ≡ Ok q) × (command_of (task.Session s script) ≡ q.command)) → AsksSession words
+session_asked words s script (q, asked, own) = (q, asked, sym own)
 
 -- a task that is done is the answer, and a session is the one that is asked for
 pub replied_case : (words : List (List ℕ)) (held : Option Held) (before now ticks ticked : ℕ) (t : Task) (r : Reply) → ProblemCase words held before now (Ok t) → ticks ≤ ticked → ticked ≤ ticks + MOST_FILLED → ReplyCase t ticks ticked r
@@ -199,7 +223,7 @@ pub replied_case : (words : List (List ℕ)) (held : Option Held) (before now ti
 replied_case words held before now ticks ticked t (reply.Answer a) case later few done =
     let counted : ticked ≡ ticks + (ticked - ticks) = omega (arith, later) in
     let small : ticked - ticks ≤ MOST_FILLED = omega (arith, few) in
-    (case.0, (ticked - ticks, counted, (done.0, done.1, done_answer words held a.ending done.0 (ticked - ticks) (bytes_in a.cert) t case.2 case.3 small done.2)))
+    (case.0, (ticked - ticks, counted, (done.0, done.1, done_answer words held a.ending done.0 (ticked - ticks) (bytes_in a.cert) t case.1 case.2 case.3 small done.2)))
 replied_case words held before now ticks ticked t (reply.Session s script) case later few done =
     let here = subst (λ (x : Task). ProblemCase words held before now (Ok x)) done.0 case in
     (case.0, done.1, here.1, (session_asked words s script here.2, here.3))

@@ -14,7 +14,7 @@ use Rattle.network_check.specs.Budgets.{range_values, keeps_budget, IsDefaultBud
 use Rattle.planner_top.specs.declared.filled.TheConstants.{MOST_FILLED}
 use Rattle.command_words.specs.Requests.{IsRanges}
 use Rattle.edit_reuse.specs.Refusals.{budget_fault}
-use Rattle.planner_top.specs.Tasks.{IsBudget}
+use Rattle.planner_top.specs.Ready.{IsBudget}
 
 -- the default budget is not below another
 default_most : (n : Net) (a b : ℕ) → IsDefaultBudget n a → IsDefaultBudget n b → (a ≡ DEFAULT_BUDGET) ⊎ (keeps_budget n (a + 1) ≡ false) → (a < b) ⊎ (b ≤ a) → b ≤ a

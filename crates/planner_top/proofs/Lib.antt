@@ -5,6 +5,8 @@ pub mod DoneFacts
 pub mod ExactFacts
 pub mod HeadlineFacts
 pub mod LastFacts
+pub mod NodeFacts
+pub mod NoFileFacts
 pub mod SolveFacts
 pub mod SessionFacts
 pub mod StatusFacts

@@ -19,6 +19,9 @@ most_by : (c : Command) → MOST_FILLED ≤ most_of c
 most_by command.Solve = omega arith
 most_by command.Audit = omega arith
 most_by command.Check = omega arith
+most_by command.Explain = omega arith
+most_by command.Clusters = omega arith
+most_by command.Trial = omega arith
 most_by command.Session = omega arith
 
 most_at_least : (a : Result Asked WordFault) → MOST_FILLED ≤ most_for a

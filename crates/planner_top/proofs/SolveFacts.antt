@@ -15,9 +15,9 @@ use Rattle.range_branch.specs.Solutions.{Solves}
 use Rattle.network_check.specs.declared.checked.Checked.{Checked}
 use Rattle.cert_check.specs.Bytes.{IsAcceptedBytes}
 use Rattle.stock_report.specs.Lines.{lines_of}
-use Rattle.stock_report.specs.Answers.{solution_rows}
 use Rattle.cert_files.specs.Certificates.{cert_bytes, bytes_in}
-use Rattle.planner_top.specs.Done.{IsSolution, ending_by}
+use Rattle.planner_top.specs.Done.{IsSolution, told_rows, ending_by}
+use Rattle.planner_top.specs.declared.task.Report.{Report}
 use Rattle.planner_top.specs.Answers.{IsTextOf}
 use Rattle.planner_top.specs.declared.answer.Answer.{Answer}
 
@@ -39,12 +39,12 @@ pub record IsSearched (n : Net) (f : Forest) (budget filled : ℕ) (x : Cert) : 
   pub stages : f.dropped ≡ [] → length x.tables ≡ length n.stages
 
 -- the answer that its certificate shows is the solution
-pub solution_shown : {E : Type 0} (r : Result Answer E) (c : Checked) (f : Forest) (budget filled : ℕ) (x : Cert) → IsSearched c.network f budget filled x
-    → IfOk r (λ a. a.ending ≡ ending_by x.verdict.outcome) → IfOk r (λ a. a.text ≡ lines_of (solution_rows c x.verdict (length x.nodes) (length x.tables))) → IfOk r (λ a. a.cert ≡ Some x)
-    → IfOk r (λ a. IsTextOf a.text (λ rows. IsSolution a.ending rows filled (bytes_in a.cert) c f budget))
-solution_shown (Err e) c f budget filled x is ending text cert = tt
-solution_shown (Ok a) c f budget filled x is ending text cert = (
-  solution_rows c x.verdict (length x.nodes) (length x.tables),
+pub solution_shown : {E : Type 0} (r : Result Answer E) (c : Checked) (f : Forest) (budget : ℕ) (how : Report) (filled : ℕ) (x : Cert) → IsSearched c.network f budget filled x
+    → IfOk r (λ a. a.ending ≡ ending_by x.verdict.outcome) → IfOk r (λ a. a.text ≡ lines_of (told_rows how c x.verdict (length x.nodes) (length x.tables))) → IfOk r (λ a. a.cert ≡ Some x)
+    → IfOk r (λ a. IsTextOf a.text (λ rows. IsSolution a.ending rows filled (bytes_in a.cert) c f budget how))
+solution_shown (Err e) c f budget how filled x is ending text cert = tt
+solution_shown (Ok a) c f budget how filled x is ending text cert = (
+  told_rows how c x.verdict (length x.nodes) (length x.tables),
   text,
   record {
     search = x;

@@ -11,6 +11,8 @@ use Rattle.command_words.specs.Asked.{cert_name}
 use Rattle.stock_report.specs.Lines.{lines_of}
 use Rattle.stock_report.specs.Refusals.{fault_row, write_fault_row}
 use Rattle.planner_top.specs.Answers.{IsAnswer}
+use Rattle.cert_files.specs.Certificates.{KeepsOthers}
+use Rattle.cert_files.proofs.PutFacts.{cert_put_keeps, part_keeps}
 use Rattle.planner_top.specs.Runs.{Run, Follows, PartFollows, IsLater}
 use Rattle.planner_top.specs.Endings.{Answered, IsFound, status_of}
 use Rattle.planner_top.specs.Faults.{IsUnsolved, IsUnwritten, PrintsFront}
@@ -124,3 +126,20 @@ fault_case r word status.NotFeasible later unsolved case = absurd case
 pub all_is_front : (before after : Option (List ℕ)) (text : List ℕ) → Follows before text after → PartFollows before text after
 all_is_front before after text follows =
     (length text, follows ∙ ap (λ (x : List ℕ). option_map (λ (bytes : List ℕ). bytes ++ x) before) (sym (take-length text)))
+
+-- whatever its status, an answer that is given leaves the other names of the shelf
+pub given_keeps : (g : Given) (s : Status) → GivenCase g s → KeepsOthers g.name g.held g.held_after
+given_keeps g status.WriteFault (inl is) = cert_put_keeps g.name g.cert g.held g.held_after is.0.held
+given_keeps g status.WriteFault (inr is) = part_keeps g.name g.cert g.held g.held_after is.0.held
+given_keeps g status.NoMemory (inl is) = cert_put_keeps g.name g.cert g.held g.held_after is.held
+given_keeps g status.NoMemory (inr (inl is)) = part_keeps g.name g.cert g.held g.held_after is.held
+given_keeps g status.NoMemory (inr (inr is)) = part_keeps g.name g.cert g.held g.held_after is.held
+given_keeps g status.Done is = cert_put_keeps g.name g.cert g.held g.held_after is.1.held
+given_keeps g status.Infeasible is = cert_put_keeps g.name g.cert g.held g.held_after is.1.held
+given_keeps g status.Spent is = cert_put_keeps g.name g.cert g.held g.held_after is.1.held
+given_keeps g status.Words is = cert_put_keeps g.name g.cert g.held g.held_after is.1.held
+given_keeps g status.Refused is = cert_put_keeps g.name g.cert g.held g.held_after is.1.held
+given_keeps g status.TooLong is = cert_put_keeps g.name g.cert g.held g.held_after is.1.held
+given_keeps g status.ReadFault is = cert_put_keeps g.name g.cert g.held g.held_after is.1.held
+given_keeps g status.NotAccepted is = cert_put_keeps g.name g.cert g.held g.held_after is.1.held
+given_keeps g status.NotFeasible is = cert_put_keeps g.name g.cert g.held g.held_after is.1.held

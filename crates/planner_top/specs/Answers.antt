@@ -1,5 +1,5 @@
 -- What a run answers to its words and files, where no call on the outside failed and memory sufficed.
-use Rattle.std.specs.Prelude.{◌≡◌, ◌≤◌, ◌↔◌, ℕ, List, [], ◌∷◌, Option, None, Result, Ok, Err, IsErr, MatchResult, MatchOption, IfSome, ⊤}
+use Rattle.std.specs.Prelude.{◌≡◌, ◌≢◌, ◌≤◌, ◌↔◌, ◌⊎◌, ℕ, List, [], ◌∷◌, Option, None, Result, Ok, Err, IsErr, MatchResult, MatchOption, IfSome, ⊤}
 use Rattle.gsm_outside.specs.Held.{Held}
 use Rattle.command_words.specs.Asked.{Asked, asked_of}
 use Rattle.request_files.specs.Lengths.{too_long_of}
@@ -15,13 +15,17 @@ use Rattle.planner_top.specs.declared.answer.Ending.{Ending}
 use Rattle.planner_top.specs.declared.stop.Stop.TheVariants as stop
 use Rattle.planner_top.specs.declared.answer.Ending.TheVariants as ending
 use Rattle.planner_top.specs.Stops.{stop_row}
-use Rattle.planner_top.specs.Tasks.{IsTask}
+use Rattle.planner_top.specs.Tasks.{IsTask, IsTrialTask}
 use Rattle.planner_top.specs.Done.{IsDone}
 
--- what a request asks to be done, or why it is refused: by the length of a file, or by a rule on files
-abbrev pub IsAskedProblem : Asked → Held → Result Task Stop → Type 0
-IsAskedProblem q held problem =
+-- what a request asks to be done with its files, or why it is refused: by the length of a file, or by a rule on files
+abbrev pub IsFilesProblem : Asked → Held → Result Task Stop → Type 0
+IsFilesProblem q held problem =
     MatchOption (too_long_of q held) (IsTask q.command q.ranges q.horizon (contents_of q held) problem) (λ word. problem ≡ Err (stop.TooLong word))
+
+-- what a request asks to be done, or why it is refused; a trial reads no file
+abbrev pub IsAskedProblem : Asked → Held → Result Task Stop → Type 0
+IsAskedProblem q held problem = MatchOption q.trial (IsFilesProblem q held problem) (λ t. IsTrialTask t q.ranges q.horizon problem)
 
 -- what words ask to be done, or why they are refused
 abbrev pub IsProblem : List (List ℕ) → Held → Result Task Stop → Type 0
@@ -38,22 +42,16 @@ ending_of (stop.Refused fault) = ending.Refused
 abbrev pub IsRefusal : Ending → List (List (List ℕ)) → ℕ → Option (List ℕ) → Stop → Type 0
 IsRefusal e rows filled cert s = (e ≡ ending_of s) × (rows ≡ stop_row s ∷ []) × (filled ≡ 0) × (cert ≡ None)
 
--- a command may end so by one answer; a session that is done is carried out, and has no such answer
+-- a command may end so by one answer; a session that is done is carried out, and has no such answer, and a trial has a plan
 abbrev pub MayEnd : Command → Ending → Type 0
-MayEnd command.Solve ending.NotFeasible = ⊥
-MayEnd command.Solve ending.NotAccepted = ⊥
-MayEnd command.Audit ending.Infeasible = ⊥
-MayEnd command.Audit ending.Spent = ⊥
-MayEnd command.Audit ending.NotAccepted = ⊥
-MayEnd command.Check ending.Infeasible = ⊥
-MayEnd command.Check ending.Spent = ⊥
-MayEnd command.Check ending.NotFeasible = ⊥
-MayEnd command.Session ending.Done = ⊥
-MayEnd command.Session ending.Infeasible = ⊥
-MayEnd command.Session ending.Spent = ⊥
-MayEnd command.Session ending.NotAccepted = ⊥
-MayEnd command.Session ending.NotFeasible = ⊥
-MayEnd _ _ = ⊤
+MayEnd c ending.Done = c ≢ command.Session
+MayEnd c ending.Infeasible = c ≡ command.Solve
+MayEnd c ending.Spent = (c ≡ command.Solve) ⊎ (c ≡ command.Trial)
+MayEnd c ending.NotAccepted = (c ≡ command.Check) ⊎ (c ≡ command.Explain)
+MayEnd c ending.NotFeasible = c ≡ command.Audit
+MayEnd c ending.Words = ⊤
+MayEnd c ending.Refused = ⊤
+MayEnd c ending.TooLong = ⊤
 
 -- an ending with its rows, the number of tables that were filled and the certificate that was made is the answer to words and to what
 -- a shelf holds, where the shelf tells

@@ -1,62 +1,22 @@
 -- The promise of the top call.
-use Rattle.std.specs.Prelude.{◌≡◌, ◌<◌, ◌≤◌, ◌+◌, ◌↔◌, ℕ, List, [], length, Some, None, Ok, Err, ◌⊎◌, ◌≢◌, ⊤}
-use Rattle.service_model.specs.declared.plan.Plan.{Plan}
-use Rattle.service_model.specs.declared.cert.Cert.{Cert}
-use Rattle.service_model.specs.Plans.{Feasible, Least, Empty, cost_of}
-use Rattle.service_model.specs.declared.cert.Verdict.{Verdict}
-use Rattle.cert_check.specs.Bytes.{IsAcceptedBytes, IsRefusedBytes}
+use Rattle.std.specs.Prelude.{◌≡◌, ◌↔◌, ℕ, List, Some, None, Ok, Err, ◌⊎◌, ◌≢◌}
 use Rattle.gsm_outside.specs.Held.{Held}
-use Rattle.tree_order.specs.declared.forest.Forest.{Forest}
-use Rattle.search_laws.specs.Own.{IsOwn}
-use Rattle.search_laws.specs.Enough.{enough_of}
-use Rattle.network_check.specs.declared.checked.Checked.{Checked}
 use Rattle.command_words.specs.declared.word_fault.WordFault.{WordFault}
-use Rattle.service_model.specs.Net.{Net}
 use Rattle.stage_file.specs.declared.fault.FileFault.{FileFault}
 use Rattle.gsm_outside.specs.Causes.{Rose}
 use Rattle.command_words.specs.Asked.{cert_name}
 use Rattle.command_words.specs.declared.file_word.FileWord.{FileWord}
-use Rattle.service_model.specs.declared.cert.Outcome.TheVariants as outcome
 use Rattle.planner_top.specs.declared.task.Task.{Task}
 use Rattle.planner_top.specs.declared.answer.Ending.{Ending}
-use Rattle.planner_top.specs.declared.task.Task.TheVariants as task
 use Rattle.planner_top.specs.declared.stop.Stop.TheVariants as stop
 use Rattle.planner_top.specs.declared.answer.Ending.TheVariants as ending
 use Rattle.planner_top.specs.declared.status.Status.TheVariants as status
 use Rattle.planner_top.specs.Answers.{IsProblem}
+use Rattle.planner_top.specs.Causes.{CanBeDone, IsRefusedTask, IsBrokenTask, IsEmptyTask, IsSpentTask, EndsOrSpent}
 use Rattle.planner_top.specs.Runs.{Run, IsLater}
 use Rattle.planner_top.specs.Endings.{status_of, Answered}
 use Rattle.planner_top.specs.Faults.{FailedRead, PrintsFront, IsLeft, FailedWrite}
 use Rattle.planner_top.specs.Sessions.{KeepsNames, IsCarried, IsCutByWrite, IsCutByMemory}
-
--- a task that can be done: there is a least plan, the plan is feasible, or the certificate is accepted; a session always can
-abbrev pub CanBeDone : Task → Type 0
-CanBeDone (task.Solve c f budget) = (plan : Plan) × Least c.network plan
-CanBeDone (task.Audit c plan) = Feasible c.network plan
-CanBeDone (task.Check c bytes) = (v : Verdict) × IsAcceptedBytes c.network bytes v
-CanBeDone (task.Session s script) = ⊤
-
--- a search within the budget ended before it found an answer: its forest drops an arc, two further ranges would pass the budget, which
--- is less than enough, and its bound is above the cost of no feasible plan
-pub record IsSpent (n : Net) (f : Forest) (budget : ℕ) : Type 0 where
-  pub drops : f.dropped ≢ []
-  pub search : Cert
-  pub own : IsOwn n f budget search
-  pub spent : search.verdict.outcome ≡ outcome.Spent
-  pub full : budget < length search.nodes + 2
-  pub short : budget < enough_of n f
-  pub below : (p : Plan) → Feasible n p → search.verdict.bound ≤ cost_of n p
-
--- the task is to solve a network whose forest drops an arc
-abbrev pub DropsArc : Task → Type 0
-DropsArc (task.Solve c f budget) = f.dropped ≢ []
-DropsArc (task.Audit c plan) = ⊥
-DropsArc (task.Check c bytes) = ⊥
-DropsArc (task.Session s script) = ⊥
-
--- the run ends so, or its budget was spent first, which happens only where the forest drops an arc
-abbrev pub EndsOrSpent : Ending → Ending → Task → Type 0
-EndsOrSpent e wanted t = (e ≡ wanted) ⊎ ((e ≡ ending.Spent) × DropsArc t)
 
 -- which ending comes exactly where, by what words and files ask to be done, or their refusal; a network whose forest drops an arc may
 -- end spent in the place of done or infeasible
@@ -64,19 +24,13 @@ pub record Exactly (said : List (List ℕ)) (m : Held) (e : Ending) : Type 0 whe
   pub words : (e ≡ ending.Words) ↔ ((fault : WordFault) × IsProblem said m (Err (stop.Words fault)))
   pub too_long : (e ≡ ending.TooLong) ↔ ((word : FileWord) × IsProblem said m (Err (stop.TooLong word)))
   pub refused : (e ≡ ending.Refused) ↔ ((fault : FileFault) × IsProblem said m (Err (stop.Refused fault)))
-  pub not_accepted :
-      (e ≡ ending.NotAccepted)
-      ↔ ((c : Checked) × (bytes : List ℕ) × IsProblem said m (Ok (task.Check c bytes)) × ((line : ℕ) × (rule : ℕ) × IsRefusedBytes c.network bytes line rule))
-  pub not_feasible : (e ≡ ending.NotFeasible) ↔ ((c : Checked) × (plan : Plan) × IsProblem said m (Ok (task.Audit c plan)) × (¬ Feasible c.network plan))
-  pub infeasible :
-      e ≡ ending.Infeasible → (c : Checked) × (f : Forest) × (budget : ℕ) × IsProblem said m (Ok (task.Solve c f budget)) × Empty c.network
-  pub where_infeasible :
-      (c : Checked) (f : Forest) (budget : ℕ) → IsProblem said m (Ok (task.Solve c f budget)) → Empty c.network
-      → EndsOrSpent e ending.Infeasible (task.Solve c f budget)
+  pub not_accepted : (e ≡ ending.NotAccepted) ↔ ((t : Task) × IsProblem said m (Ok t) × IsRefusedTask t)
+  pub not_feasible : (e ≡ ending.NotFeasible) ↔ ((t : Task) × IsProblem said m (Ok t) × IsBrokenTask t)
+  pub infeasible : e ≡ ending.Infeasible → (t : Task) × IsProblem said m (Ok t) × IsEmptyTask t
+  pub where_infeasible : (t : Task) → IsProblem said m (Ok t) → IsEmptyTask t → EndsOrSpent e ending.Infeasible t
   pub done : e ≡ ending.Done → (t : Task) × IsProblem said m (Ok t) × CanBeDone t
   pub where_done : (t : Task) → IsProblem said m (Ok t) → CanBeDone t → EndsOrSpent e ending.Done t
-  pub spent :
-      e ≡ ending.Spent → (c : Checked) × (f : Forest) × (budget : ℕ) × IsProblem said m (Ok (task.Solve c f budget)) × IsSpent c.network f budget
+  pub spent : e ≡ ending.Spent → (t : Task) × IsProblem said m (Ok t) × IsSpentTask t
 
 -- no call on the outside failed, and memory sufficed
 pub record IsSure (r : Run) : Type 0 where

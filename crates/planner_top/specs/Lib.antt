@@ -1,5 +1,6 @@
 pub mod Statuses
 pub mod Stops
+pub mod Ready
 pub mod Tasks
 pub mod TaskCases
 pub mod Done
@@ -10,4 +11,5 @@ pub mod Sessions
 pub mod Endings
 pub mod Faults
 pub mod StatusCases
+pub mod Causes
 pub mod Headline

@@ -2,11 +2,9 @@
 use Rattle.std.specs.Prelude.{◌≡◌, ◌≤◌, ◌+◌, ◌-◌, ℕ, List, Option, Result, Ok, Err, IfSome, ⊤, IsOk}
 use Rattle.gsm_outside.specs.Held.{Held}
 use Rattle.command_words.specs.Asked.{Asked, asked_of}
-use Rattle.command_words.specs.declared.command.Command.{Command}
 use Rattle.gsm_outside.specs.Causes.{Rose}
 use Rattle.command_words.specs.declared.file_word.FileWord.{FileWord}
 use Rattle.request_files.specs.Contents.{IsUnread}
-use Rattle.command_words.specs.declared.command.Command.TheVariants as command
 use Rattle.planner_top.specs.declared.filled.TheConstants.{MOST_FILLED}
 use Rattle.planner_top.specs.declared.task.Task.{Task}
 use Rattle.planner_top.specs.declared.stop.Stop.{Stop}
@@ -19,7 +17,7 @@ use Rattle.planner_top.specs.declared.task.Task.TheVariants as task
 use Rattle.planner_top.specs.declared.stop.Stop.TheVariants as stop
 use Rattle.planner_top.specs.declared.stop.Unsolved.TheVariants as unsolved
 use Rattle.planner_top.specs.declared.answer.Unanswered.TheVariants as unanswered
-use Rattle.planner_top.specs.Tasks.{IsReady}
+use Rattle.planner_top.specs.Ready.{IsReady, command_of}
 use Rattle.cert_files.specs.Certificates.{bytes_in}
 use Rattle.planner_top.specs.Done.{IsDone}
 use Rattle.planner_top.specs.Sessions.{IsSessionOf}
@@ -35,17 +33,9 @@ TellsWords words (stop.Refused fault) = IsOk (asked_of words)
 abbrev pub IsUnreadOf : List (List ℕ) → Option Held → FileWord → Type 0
 IsUnreadOf words held word = (q : Asked) × (asked_of words ≡ Ok q) × IsUnread q held word
 
--- a task is the one of a command
-abbrev pub IsTaskOf : Command → Task → Type 0
-IsTaskOf command.Solve (task.Solve c f budget) = ⊤
-IsTaskOf command.Audit (task.Audit c plan) = ⊤
-IsTaskOf command.Check (task.Check c bytes) = ⊤
-IsTaskOf command.Session (task.Session s script) = ⊤
-IsTaskOf _ _ = ⊥
-
 -- what a request asks to be done, or why there is nothing to do
 abbrev pub AskedCase : Asked → Option Held → ℕ → ℕ → Result Task Unsolved → Type 0
-AskedCase q held before now (Ok t) = (now ≡ before) × IsReady t × IsTaskOf q.command t × IfSome held (λ m. IsAskedProblem q m (Ok t))
+AskedCase q held before now (Ok t) = (now ≡ before) × IsReady t × (command_of t ≡ q.command) × IfSome held (λ m. IsAskedProblem q m (Ok t))
 AskedCase q held before now (Err (unsolved.Stop (stop.Words fault))) = ⊥
 AskedCase q held before now (Err (unsolved.Stop s)) = (now ≡ before) × IfSome held (λ m. IsAskedProblem q m (Err s))
 AskedCase q held before now (Err (unsolved.Fault word)) = (before ≤ now) × Rose before now × IsUnread q held word
@@ -54,7 +44,7 @@ AskedCase q held before now (Err unsolved.NoMemory) = before ≤ now
 -- what the words ask to be done, or why there is nothing to do
 abbrev pub ProblemCase : List (List ℕ) → Option Held → ℕ → ℕ → Result Task Unsolved → Type 0
 ProblemCase words held before now (Ok t) =
-    (now ≡ before) × IsReady t × ((q : Asked) × (asked_of words ≡ Ok q) × IsTaskOf q.command t) × IfSome held (λ m. IsProblem words m (Ok t))
+    (now ≡ before) × IsReady t × ((q : Asked) × (asked_of words ≡ Ok q) × (command_of t ≡ q.command)) × IfSome held (λ m. IsProblem words m (Ok t))
 ProblemCase words held before now (Err (unsolved.Stop s)) =
     (now ≡ before) × TellsWords words s × IfSome held (λ m. IsProblem words m (Err s))
 ProblemCase words held before now (Err (unsolved.Fault word)) = (before ≤ now) × Rose before now × IsUnreadOf words held word

@@ -1,9 +1,10 @@
 -- What is seen of a run.
-use Rattle.std.specs.Prelude.{◌≡◌, ◌≤◌, ◌+◌, ℕ, List, [], ◌∷◌, Option, ◌++◌, take, option_map, Result, Ok, Err}
+use Rattle.std.specs.Prelude.{◌≡◌, ◌≤◌, ◌+◌, ℕ, List, [], ◌∷◌, Option, ◌++◌, take, option_map, Result, Ok, Err, MatchResult, IsTrue, not, ⊤}
 use Rattle.gsm_outside.specs.Held.{Held}
 use Rattle.command_words.specs.declared.command.Command.{Command}
 use Rattle.command_words.specs.declared.command.Command.TheVariants as command
 use Rattle.command_words.specs.declared.word_fault.WordFault.{WordFault}
+use Rattle.command_words.specs.Commands.{reads_network}
 use Rattle.command_words.specs.Asked.{Asked, asked_of}
 use Rattle.stock_report.specs.Lines.{lines_of}
 use Rattle.stock_report.specs.Refusals.{write_fault_row}
@@ -76,3 +77,7 @@ pub record IsLater (r : Run) : Type 0 where
   pub faults : r.faults ≤ r.faults_after
   pub ticks : r.ticks ≤ r.ticks_after
   pub few : r.ticks_after ≤ r.ticks + most_for (asked_of r.words)
+
+-- the words need no file: a rule on them fails, or the command that they name reads no network
+abbrev pub NeedNoFile : List (List ℕ) → Type 0
+NeedNoFile words = MatchResult (asked_of words) (λ q. IsTrue (not (reads_network q.command))) (λ fault. ⊤)

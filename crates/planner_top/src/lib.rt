@@ -5,6 +5,7 @@ mod answer;
 mod answering;
 mod audit;
 mod check;
+mod clustered;
 mod filled;
 mod refusal;
 mod search;
@@ -24,6 +25,8 @@ mod tests_failed;
 mod tests_loops;
 #[cfg(test)]
 mod tests_session;
+#[cfg(test)]
+mod tests_told;
 #[cfg(test)]
 mod tests_trees;
 mod top;

@@ -8,7 +8,7 @@ ghost use Rattle.search_laws.specs.Enough.{enough_of};
 ghost use Rattle.range_branch.specs.Solutions.{Solves};
 ghost use Rattle.cert_check.specs.Bytes.{IsAcceptedBytes};
 ghost use Rattle.cert_files.specs.Certificates.{cert_bytes};
-ghost use Rattle.planner_top.specs.Tasks.{IsBudget};
+ghost use Rattle.planner_top.specs.Ready.{IsBudget};
 
 use crate::filled::MOST_FILLED;
 use range_branch::search;
@@ -33,6 +33,7 @@ pub fn cert_for<L>(
     ensures true_verdict { IfOk result (λ c. IsTrueOf network.now c.verdict) }
     ensures accepted { IfOk result (λ c. IsAcceptedBytes network.now (cert_bytes c) c.verdict) }
     ensures nodes { IfOk result (λ c. length c.nodes ≤ enough_of network.now forest.now) }
+    ensures ranges { IfOk result (λ c. length c.nodes ≤ budget) }
     ensures full { IfOk result (λ c. c.verdict.outcome ≡ outcome.Spent → budget < length c.nodes + 2) }
     ensures short { IfOk result (λ c. c.verdict.outcome ≡ outcome.Spent → budget < enough_of network.now forest.now) }
     // Where the forest drops no arc, one range solves the network, with one table for each stage.

@@ -1,5 +1,5 @@
 // From the bytes of files to what is to be done with their network.
-ghost use Rattle.std.specs.Prelude.{◌≡◌, ◌≢◌, ◌≤◌, [], IfOk, length};
+ghost use Rattle.std.specs.Prelude.{◌≡◌, ◌≢◌, ◌≤◌, IfOk, IsTrue, length};
 ghost use Rattle.service_model.specs.declared.limits.TheConstants.{MAX_HORIZON};
 ghost use Rattle.stage_file.specs.Raw.{AreFiles, IsRawNet};
 ghost use Rattle.stage_file.specs.Rows.{rows_of_bytes};
@@ -11,12 +11,16 @@ ghost use Rattle.network_check.specs.Checked.{IsNetworkOf, IsChecked};
 ghost use Rattle.command_words.specs.Commands.{further_file};
 ghost use Rattle.request_files.specs.Lengths.{AreShort, IsWithin};
 ghost use Rattle.command_words.specs.Requests.{IsRanges};
-ghost use Rattle.planner_top.specs.Tasks.{files_in, AreReadRows, AreReadFiles};
-ghost use Rattle.planner_top.specs.TaskCases.{TaskCase, TogetherCase, LastCase};
+ghost use Rattle.command_words.specs.Commands.{reads_network};
+ghost use Rattle.command_words.specs.Requests.{IsTrialNumbers};
+ghost use Rattle.planner_top.specs.Tasks.{files_in, IsLastFault, IsSearchOf};
+ghost use Rattle.planner_top.specs.Ready.{AreReadRows, AreReadFiles, MayBeTold};
+ghost use Rattle.planner_top.specs.TaskCases.{TaskCase, TogetherCase, LastCase, SearchCase, TrialCase};
 
 use crate::stop::{Stop, Unsolved, unsolved_by};
-use command_words::Command;
+use command_words::{Command, TrialNumbers};
 use edit_reuse::Session;
+use gsm_gen::make;
 use network_check::{Checked, budget_of, check_records};
 use request_files::{Contents, FILE_LIMIT};
 use service_model::{NoMemory, Plan};
@@ -24,15 +28,34 @@ use stage_file::{Files, RawNet, ReadFault, Rows, Text, raw_net, read_plan, rows_
 use std::alloc::Global;
 use tree_order::{Forest, forest_of};
 
+/// How the answer of a search is told.
+#[derive(Clone, Copy, Debug, PartialEq, Eq)]
+pub enum Report {
+    /// Stage by stage.
+    Stages,
+    /// As a trial network that was made from this number.
+    Trial(u64),
+}
+
+/// How an accepted certificate is told.
+#[derive(Clone, Copy, Debug, PartialEq, Eq)]
+pub enum Detail {
+    Verdict,
+    /// Its verdict, how its ranges were cut, and what binds its plan.
+    Explanation,
+}
+
 /// What is to be done.
 #[derive(Drop)]
 pub enum Task {
     /// The least plan of the network is to be found, over its forest and with so many ranges at most.
-    Solve(Checked, Forest, u32),
+    Solve(Checked, Forest, u32, Report),
     /// The plan is to be tested against the rules.
     Audit(Checked, Plan),
     /// The bytes of a certificate are to be tested against the rules.
-    Check(Checked, Text),
+    Check(Checked, Text, Detail),
+    /// The bridges and clusters of the network are to be found.
+    Clusters(Checked),
     /// The rows of a script are to be carried out on the files of a session.
     Session(Session, Rows),
 }
@@ -45,6 +68,7 @@ pub fn task_of(
     horizon: u16,
     contents: Contents,
 ) -> Result<Task, Unsolved>
+    requires network { IsTrue (reads_network command) }
     requires ranges { IsRanges ranges }
     requires horizon { horizon ≤ MAX_HORIZON }
     requires short { AreShort command contents }
@@ -52,9 +76,29 @@ pub fn task_of(
 {
     match command {
         Command::Session => session_task(alloc, ranges, horizon, contents),
-        Command::Solve | Command::Audit | Command::Check => {
-            network_task(alloc, command, ranges, horizon, contents)
-        }
+        _ => network_task(alloc, command, ranges, horizon, contents),
+    }
+}
+
+/// The search of a trial network, or the first rule that fails on the files that are made for it.
+pub fn trial_of(
+    alloc: Global,
+    numbers: TrialNumbers,
+    ranges: Option<u32>,
+    horizon: u16,
+) -> Result<Task, Unsolved>
+    requires numbers { IsTrialNumbers numbers }
+    requires ranges { IsRanges ranges }
+    requires horizon { horizon ≤ MAX_HORIZON }
+    ensures { TrialCase numbers ranges horizon result }
+{
+    let files = make(alloc, numbers.seed, numbers.stages, numbers.extra, horizon)?;
+    match raw_net(alloc, &files, horizon) {
+        Ok(raw) => match check_records(alloc, &raw) {
+            Ok(checked) => solve_task(alloc, ranges, &raw, checked, Report::Trial(numbers.seed)),
+            Err(refused) => Err(unsolved_by(refused)),
+        },
+        Err(fault) => Err(unsolved_by(fault)),
     }
 }
 
@@ -86,6 +130,7 @@ fn network_task(
     horizon: u16,
     contents: Contents,
 ) -> Result<Task, Unsolved>
+    requires network { IsTrue (reads_network command) }
     requires command { command ≢ Command.Session }
     requires ranges { IsRanges ranges }
     requires horizon { horizon ≤ MAX_HORIZON }
@@ -134,6 +179,7 @@ fn task_in(
     raw: &RawNet,
     further: Text,
 ) -> Result<Task, Unsolved>
+    requires network { IsTrue (reads_network command) }
     requires command { command ≢ Command.Session }
     requires ranges { IsRanges ranges }
     requires horizon { raw.now.horizon ≤ MAX_HORIZON }
@@ -156,6 +202,7 @@ fn last_of(
     checked: Checked,
     further: Text,
 ) -> Result<Task, Unsolved>
+    requires network { IsTrue (reads_network command) }
     requires command { command ≢ Command.Session }
     requires ranges { IsRanges ranges }
     requires read { IsRawNet raw.now }
@@ -165,13 +212,15 @@ fn last_of(
     ensures { LastCase command ranges raw.now further result }
 {
     match command {
-        Command::Solve => solve_task(alloc, ranges, raw, checked),
+        Command::Solve => solve_task(alloc, ranges, raw, checked, Report::Stages),
         Command::Audit => match plan_in(alloc, raw, further.as_slice()) {
             Ok(plan) => Ok(Task::Audit(checked, plan)),
             Err(fault) => Err(unsolved_by(fault)),
         },
-        Command::Check => Ok(Task::Check(checked, further)),
-        Command::Session => unreachable!(),
+        Command::Check => Ok(Task::Check(checked, further, Detail::Verdict)),
+        Command::Explain => Ok(Task::Check(checked, further, Detail::Explanation)),
+        Command::Clusters => Ok(Task::Clusters(checked)),
+        Command::Session | Command::Trial => unreachable!(),
     }
 }
 
@@ -191,16 +240,18 @@ fn solve_task(
     ranges: Option<u32>,
     raw: &RawNet,
     checked: Checked,
+    report: Report,
 ) -> Result<Task, Unsolved>
     requires ranges { IsRanges ranges }
     requires made { IsNetworkOf raw.now checked }
     requires checked { IsChecked checked }
-    ensures { LastCase Command.Solve ranges raw.now [] result }
+    requires told { MayBeTold report checked.network }
+    ensures { SearchCase ranges raw.now report result }
 {
     match budget_of(&checked.network, ranges) {
         Ok(budget) => {
             let forest = forest_of(alloc, &checked.network)?;
-            Ok(Task::Solve(checked, forest, budget))
+            Ok(Task::Solve(checked, forest, budget, report))
         }
         Err(fault) => Err(Unsolved::Stop(Stop::Refused(fault))),
     }

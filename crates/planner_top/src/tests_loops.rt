@@ -6,14 +6,14 @@ use std::alloc::Global;
 use std::test::Fail;
 
 // A supplies B and C, which both supply D: the forest drops the arc from C to D.
-const DIAMOND: [&str; 3] = [
+pub const DIAMOND: [&str; 3] = [
     "stage,lead,supply,least,most,bound,unit\nA,2,,,,a,1\nB,0,,,,b,1\nC,0,,,,c,1\nD,0,,,0,d,1\n",
     "table,x\na,0,3,7\nb,0,6,6\nc,0,1,1\nd,0,8,8\n",
     "supplier,customer,quantity\nA,B,1\nA,C,1\nB,D,1\nC,D,1\n",
 ];
 
 // Its certificate: a node, the split of C at time 0, and the two nodes of the split.
-const LINES: [&str; 16] = [
+pub const LINES: [&str; 16] = [
     "[\"gsm-cert\",1,2,4,1000]\n",
     "[\"t\",3,1,0,0,0,[],[0,8,8]]\n",
     "[\"t\",2,1,0,2,0,[],[0,0,0]]\n",
@@ -58,7 +58,7 @@ const FORGED: [(usize, &str, &str); 5] = [
 ];
 
 // The files of a network.
-fn shelf_of(alloc: Global, files: [&str; 3]) -> Result<SureShelf, Fail> {
+pub fn shelf_of(alloc: Global, files: [&str; 3]) -> Result<SureShelf, Fail> {
     let mut shelf = SureShelf::new(alloc);
     shelf.with_file("s", files[0].as_bytes())?;
     shelf.with_file("t", files[1].as_bytes())?;
@@ -67,7 +67,7 @@ fn shelf_of(alloc: Global, files: [&str; 3]) -> Result<SureShelf, Fail> {
 }
 
 // Solves a network within a budget and writes its certificate, into the sink.
-fn solve_within(
+pub fn solve_within(
     alloc: Global,
     horizon: &str,
     ranges: &str,
@@ -166,7 +166,7 @@ fn a_forged_certificate_of_the_diamond_is_not_accepted(rt: HostRuntime) -> Resul
 }
 
 // Parts that are built, sold in two regions and kept as spares: Board and Battery supply both Build and Spares.
-const LAPTOP: [&str; 3] = [
+pub const LAPTOP: [&str; 3] = [
     "stage,lead,supply,least,most,bound,unit\nPanel,30,,,,pool,40\nBoard,15,,,,pool,60\nChip,45,,,,pool,25\nBattery,20,,,,pool,15\nBuild,5,,,,pool,200\nEast,3,,,0,normal:120,260\nWest,6,,,2,normal:90,260\nSpares,4,,,10,normal:12,70\n",
     "table,x\n",
     "supplier,customer,quantity\nPanel,Build,1\nChip,Board,1\nBoard,Build,1\nBattery,Build,1\nBuild,East,1\nBuild,West,1\nBoard,Spares,1\nBattery,Spares,1\n",

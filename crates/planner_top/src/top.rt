@@ -4,12 +4,12 @@ ghost use Rattle.stage_file.specs.Records.{AreCountable};
 ghost use Rattle.script_run.specs.Sizes.{MayGrow};
 ghost use Rattle.script_run.specs.Runs.{KeepsUnnumbered};
 ghost use Rattle.script_run.specs.Halts.{outside_of};
-ghost use Rattle.planner_top.specs.Tasks.{AreReadRows};
+ghost use Rattle.planner_top.specs.Ready.{AreReadRows};
 ghost use Rattle.planner_top.specs.Sessions.{KeepsNames};
 ghost use Rattle.gsm_outside.specs.Causes.{HasCause};
 ghost use Rattle.command_words.specs.Asked.{cert_name};
-ghost use Rattle.cert_files.specs.Certificates.{bytes_in};
-ghost use Rattle.planner_top.specs.Runs.{run_of, Follows, PartFollows};
+ghost use Rattle.cert_files.specs.Certificates.{bytes_in, put_cert, PutPart};
+ghost use Rattle.planner_top.specs.Runs.{run_of, Follows, PartFollows, NeedNoFile};
 ghost use Rattle.planner_top.specs.Endings.{status_of};
 ghost use Rattle.planner_top.specs.StatusCases.{StatusCase, FaultCase, GivenCase, given_of, ToldCase, CarriedCase};
 ghost use Rattle.planner_top.specs.Headline.{Headline};
@@ -23,6 +23,7 @@ use command_words::{FileWord, Words, cert_name};
 use edit_reuse::Session;
 use gsm_outside::{OutFault, Shelf, Sink};
 use script_run::{Halt, carry_out};
+use service_model::Cert;
 use stage_file::{Rows, Text};
 use std::alloc::Global;
 use step_ledger::Steps;
@@ -38,7 +39,9 @@ pub fn run<S: Shelf, K: Sink, L>(
     steps: &mut Steps<L>,
 ) -> Status
     requires { steps.old ≤ 2 ^ 62 }
-    ensures { Headline (run_of words.now (S.held shelf.old) (S.held shelf.new) (S.read_faults shelf.old) (S.read_faults shelf.new) (S.write_faults shelf.old) (S.write_faults shelf.new) (K.written out.old) (K.written out.new) (K.faults out.old) (K.faults out.new) steps.old steps.new result) }
+    ensures headline { Headline (run_of words.now (S.held shelf.old) (S.held shelf.new) (S.read_faults shelf.old) (S.read_faults shelf.new) (S.write_faults shelf.old) (S.write_faults shelf.new) (K.written out.old) (K.written out.new) (K.faults out.old) (K.faults out.new) steps.old steps.new result) }
+    // Refused words and a trial leave the shelf as it is: nothing is fetched.
+    ensures untouched { NeedNoFile words.now → shelf.new ≡ shelf.old }
 {
     run_cases(alloc, words, shelf, out, steps)
 }
@@ -53,6 +56,7 @@ fn run_cases<S: Shelf, K: Sink, L>(
 ) -> Status
     requires { steps.old ≤ 2 ^ 62 }
     ensures case { StatusCase (run_of words.now (S.held shelf.old) (S.held shelf.new) (S.read_faults shelf.old) (S.read_faults shelf.new) (S.write_faults shelf.old) (S.write_faults shelf.new) (K.written out.old) (K.written out.new) (K.faults out.old) (K.faults out.new) steps.old steps.new result) result }
+    ensures untouched { NeedNoFile words.now → shelf.new ≡ shelf.old }
     ensures held { KeepsNames words.now (S.held shelf.old) (S.held shelf.new) }
     ensures writes { cert_name words.now ≡ None → S.write_faults shelf.new ≡ S.write_faults shelf.old }
 {
@@ -112,11 +116,12 @@ fn give<S: Shelf, K: Sink>(
     answer: Answer,
 ) -> Status
     ensures case { GivenCase (given_of answer.ending answer.text (option_map (λ s. s.now) name.entry) (bytes_in answer.cert) (S.held shelf.old) (S.held shelf.new) (S.write_faults shelf.old) (S.write_faults shelf.new) (K.written out.old) (K.written out.new) (K.faults out.old) (K.faults out.new)) result }
+    ensures untouched { option_map (λ s. s.now) name.entry ≡ None → shelf.new ≡ shelf.old }
     ensures writes { option_map (λ s. s.now) name.entry ≡ None → S.write_faults shelf.new ≡ S.write_faults shelf.old }
     ensures reads { S.read_faults shelf.new ≡ S.read_faults shelf.old }
 {
     let Answer { ending, text, cert } = answer;
-    match write_cert(alloc, shelf, name, cert) {
+    match put_named(alloc, shelf, name, cert) {
         Ok(()) => match print(out, &text) {
             Ok(()) => status_of(ending),
             Err(OutFault::Failed) => Status::WriteFault,
@@ -124,6 +129,26 @@ fn give<S: Shelf, K: Sink>(
         },
         Err(OutFault::Failed) => print_unwritten(alloc, out),
         Err(OutFault::NoMemory) => Status::NoMemory,
+    }
+}
+
+// Writes a certificate where a name is asked for, and leaves the shelf as it is where none is.
+fn put_named<S: Shelf>(
+    alloc: Global,
+    shelf: &mut S,
+    name: Option<&str>,
+    cert: Option<Cert>,
+) -> Result<(), OutFault>
+    ensures untouched { option_map (λ s. s.now) name.entry ≡ None → shelf.new ≡ shelf.old }
+    ensures ok { OnOk result (S.held shelf.new ≡ put_cert (option_map (λ s. s.now) name.entry) (bytes_in cert) (S.held shelf.old)) }
+    ensures err { OnErr result (PutPart (option_map (λ s. s.now) name.entry) (bytes_in cert) (S.held shelf.old) (S.held shelf.new)) }
+    ensures none { option_map (λ s. s.now) name.entry ≡ None → S.write_faults shelf.new ≡ S.write_faults shelf.old }
+    ensures cause { HasCause (S.write_faults shelf.old) (S.write_faults shelf.new) result }
+    ensures reads { S.read_faults shelf.new ≡ S.read_faults shelf.old }
+{
+    match name {
+        Some(_) => write_cert(alloc, shelf, name, cert),
+        None => Ok(()),
     }
 }
 

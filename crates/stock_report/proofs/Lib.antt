@@ -1,2 +1,3 @@
 mod BreakFacts
+mod FateFacts
 mod ReportFacts

@@ -5,3 +5,6 @@ pub mod Answers
 pub mod Audits
 pub mod Refusals
 pub mod Sessions
+pub mod Explanations
+pub mod ClusterRows
+pub mod Trials

@@ -19,7 +19,7 @@ pub fn answer_text(
     alloc: Global,
     checked: &Checked,
     verdict: &Verdict,
-    ranges: u64,
+    ranges: u32,
     filled: u64,
 ) -> Result<Text, NoMemory>
     requires checked { IsChecked checked.now }
@@ -34,7 +34,7 @@ fn solution_rows(
     alloc: Global,
     checked: &Checked,
     verdict: &Verdict,
-    ranges: u64,
+    ranges: u32,
     filled: u64,
 ) -> Result<Rows, NoMemory>
     requires checked { IsChecked checked.now }
@@ -49,7 +49,8 @@ fn solution_rows(
     Ok(rows)
 }
 
-fn outcome_row(alloc: Global, network: &Network, verdict: &Verdict) -> Result<Row, NoMemory>
+/// A verdict as a row: its outcome with its numbers.
+pub fn outcome_row(alloc: Global, network: &Network, verdict: &Verdict) -> Result<Row, NoMemory>
     requires { IfSome verdict.now.plan (Feasible network.now) }
     ensures { IfOk result (λ row. row ≡ outcome_row network.now verdict.now) }
 {
@@ -78,17 +79,17 @@ fn push_plan(
     }
 }
 
-// The number of ranges that were relaxed.
-fn ranges_row(alloc: Global, ranges: u64) -> Result<Row, NoMemory>
+/// The row with the number of ranges that were relaxed.
+pub fn ranges_row(alloc: Global, ranges: u32) -> Result<Row, NoMemory>
     ensures { IfOk result (λ row. row ≡ ranges_row ranges) }
 {
     let mut row = row_of(alloc, &["ranges"])?;
-    row.push(number(alloc, ranges)?)?;
+    row.push(number(alloc, ranges as u64)?)?;
     Ok(row)
 }
 
-// The number of tables that were filled.
-fn filled_row(alloc: Global, filled: u64) -> Result<Row, NoMemory>
+/// The row with the number of tables that were filled.
+pub fn filled_row(alloc: Global, filled: u64) -> Result<Row, NoMemory>
     ensures { IfOk result (λ row. row ≡ filled_row filled) }
 {
     let mut row = row_of(alloc, &["filled"])?;

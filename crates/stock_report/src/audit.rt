@@ -1,11 +1,12 @@
 // What `audit` prints.
-ghost use Rattle.std.specs.Prelude.{◌≡◌, ◌<◌, ◌++◌, ◌∷◌, [], length, IfOk, OnOk, Some};
+ghost use Rattle.std.specs.Prelude.{◌≡◌, ◌++◌, ◌∷◌, [], IfOk, OnOk, Some};
 ghost use Rattle.service_model.specs.Plans.{HasTimes, Feasible};
 ghost use Rattle.service_model.specs.Breaks.{first_break_of};
-ghost use Rattle.network_check.specs.Checked.{IsChecked, name_at};
+ghost use Rattle.network_check.specs.Checked.{IsChecked};
 ghost use Rattle.stock_report.specs.Lines.{lines_of};
 ghost use Rattle.stock_report.specs.Audits.{audit_rows, broken_row, broken_names, audited_rows};
 
+use crate::names::{push_ends, push_name};
 use crate::report::{push_report, report_header};
 use crate::text::{number, numbered, row_of, text_of, text_of_row};
 use network_check::Checked;
@@ -86,18 +87,8 @@ fn push_names(
     ensures { OnOk result (row.new ≡ row.old ++ broken_names checked.now broken) }
 {
     if broken.rule == NOT_WAITED {
-        let arc = *checked.network.arcs().get(broken.place as usize);
-        push_name(alloc, checked, arc.supplier, row)?;
-        push_name(alloc, checked, arc.customer, row)
+        push_ends(alloc, checked, broken.place as usize, row)
     } else {
         push_name(alloc, checked, broken.place, row)
     }
-}
-
-fn push_name(alloc: Global, checked: &Checked, stage: u32, row: &mut Row) -> Result<(), NoMemory>
-    requires { stage < length checked.now.names }
-    ensures { OnOk result (row.new ≡ row.old ++ name_at checked.now stage ∷ []) }
-{
-    let name = List::copied(alloc, checked.names.get(stage as usize).as_slice())?;
-    row.push(name)
 }

@@ -15,9 +15,18 @@ pub fn valid_text(alloc: Global, network: &Network, verdict: &Verdict) -> Result
     requires { IfSome verdict.now.plan (Feasible network.now) }
     ensures { IfOk result (λ text. text ≡ lines_of (valid_row network.now verdict.now ∷ [])) }
 {
+    let row = valid_row(alloc, network, verdict)?;
+    text_of_row(alloc, row)
+}
+
+/// The row for a certificate that is accepted with a verdict.
+pub fn valid_row(alloc: Global, network: &Network, verdict: &Verdict) -> Result<Row, NoMemory>
+    requires { IfSome verdict.now.plan (Feasible network.now) }
+    ensures { IfOk result (λ row. row ≡ valid_row network.now verdict.now) }
+{
     let mut row = row_of(alloc, &["valid"])?;
     push_outcome(alloc, network, verdict, &mut row)?;
-    text_of_row(alloc, row)
+    Ok(row)
 }
 
 /// What is printed for one on which a rule fails, with the line and the rule.

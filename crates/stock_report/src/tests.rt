@@ -11,7 +11,7 @@ use stage_file::{FileFault, FileKind, Files, Rows, Text, rows_of};
 use std::alloc::Global;
 use std::test::Fail;
 
-fn rows(alloc: Global, text: &[u8]) -> Result<Rows, NoMemory>
+pub fn rows(alloc: Global, text: &[u8]) -> Result<Rows, NoMemory>
     ensures { IfOk result AreCountable }
 {
     if text.len() > 1_000 {
@@ -33,20 +33,21 @@ fn two_stages(alloc: Global) -> Result<Checked, Fail>
     Ok(checked)
 }
 
-fn plan_of(
+pub fn plan_of(
     alloc: Global,
     checked: &Checked,
-    inbound: [u16; 2],
-    outbound: [u16; 2],
+    inbound: &[u16],
+    outbound: &[u16],
 ) -> Result<Plan, Fail>
     ensures { IfOk result (HasTimes checked.now.network) }
 {
-    if checked.network.stages().len() != 2 {
-        return Err("there are not two stages".into());
+    let stages = checked.network.stages().len();
+    if inbound.len() != stages || outbound.len() != stages {
+        return Err("there are not two times for each stage".into());
     }
     Ok(Plan {
-        inbound: List::copied(alloc, &inbound)?,
-        outbound: List::copied(alloc, &outbound)?,
+        inbound: List::copied(alloc, inbound)?,
+        outbound: List::copied(alloc, outbound)?,
     })
 }
 
@@ -66,17 +67,22 @@ fn a_plan_is_reported_or_its_broken_rule_told(rt: HostRuntime) -> Result<(), Fai
     let alloc = rt.alloc();
     let checked = two_stages(alloc)?;
     for (inbound, outbound, told) in PLANS {
-        let plan = plan_of(alloc, &checked, inbound, outbound)?;
+        let plan = plan_of(alloc, &checked, &inbound, &outbound)?;
         let text = audit_text(alloc, &checked, &plan)?;
         assert_eq!(rt; text.as_slice(), told.as_bytes());
     }
     Ok(())
 }
 
-fn feasible_plan(alloc: Global, checked: &Checked) -> Result<Plan, Fail>
+pub fn feasible_plan(
+    alloc: Global,
+    checked: &Checked,
+    inbound: &[u16],
+    outbound: &[u16],
+) -> Result<Plan, Fail>
     ensures { IfOk result (Feasible checked.now.network) }
 {
-    let plan = plan_of(alloc, checked, [0, 0], [0, 0])?;
+    let plan = plan_of(alloc, checked, inbound, outbound)?;
     match checked.network.first_break(&plan) {
         None => Ok(plan),
         Some(_) => Err("the plan is not feasible".into()),
@@ -107,7 +113,7 @@ fn texts_of(
 fn a_least_plan_is_reported(rt: HostRuntime) -> Result<(), Fail> {
     let alloc = rt.alloc();
     let checked = two_stages(alloc)?;
-    let plan = feasible_plan(alloc, &checked)?;
+    let plan = feasible_plan(alloc, &checked, &[0, 0], &[0, 0])?;
     let (solved, valid) = texts_of(alloc, &checked, Outcome::Optimal, Some(plan))?;
     assert_eq!(rt;
         solved.as_slice(),
@@ -216,7 +222,7 @@ fn session_line(
 fn each_answer_of_a_session_has_its_line(rt: HostRuntime) -> Result<(), Fail> {
     let alloc = rt.alloc();
     let checked = two_stages(alloc)?;
-    let plan = feasible_plan(alloc, &checked)?;
+    let plan = feasible_plan(alloc, &checked, &[0, 0], &[0, 0])?;
     let optimal = session_line(alloc, &checked, Outcome::Optimal, Some(plan));
     let infeasible = session_line(alloc, &checked, Outcome::Infeasible, None);
     let spent = session_line(alloc, &checked, Outcome::Spent, None);

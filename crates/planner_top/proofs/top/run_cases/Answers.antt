@@ -1,12 +1,14 @@
-use Rattle.std.proofs.Common.{ℕ, List, Option, ◌∙◌, subst, arith}
+use Rattle.std.proofs.Common.{ℕ, List, Option, ◌∙◌, subst, inl, arith}
 use Rattle.gsm_outside.specs.Held.{Held}
 use Rattle.command_words.specs.Asked.{cert_name}
 use Rattle.cert_files.specs.Certificates.{bytes_in}
 use Rattle.planner_top.specs.Runs.{run_of}
 use Rattle.planner_top.specs.StatusCases.{given_of, GivenCase, CarriedCase}
 use Rattle.script_run.specs.Halts.{outside_of}
+use Rattle.planner_top.proofs.NoFileFacts.{no_name}
 use Rattle.planner_top.proofs.SessionFacts.{carried_status}
-use Rattle.planner_top.proofs.StatusFacts.{given_case, fault_case}
+use Rattle.cert_files.specs.Certificates.{KeepsOthers}
+use Rattle.planner_top.proofs.StatusFacts.{given_case, fault_case, given_keeps}
 use Rattle.planner_top.proofs.top.run_cases.Goals as goal
 
 pub returns-in-Ok-Answer-clause-case : goal.returns-in-Ok-Answer-clause-case
@@ -59,3 +61,15 @@ returns-in-Err-Fault-clause-case g c =
     let run = run_of c.args.words.now (g.S.Shelf.held shelf) (g.S.Shelf.held shelf_after) (g.S.Shelf.read_faults shelf) (g.S.Shelf.read_faults shelf_after) (g.S.Shelf.write_faults shelf) (g.S.Shelf.write_faults shelf_after) (g.K.Sink.written out) (g.K.Sink.written out_after) (g.K.Sink.faults out) (g.K.Sink.faults out_after) c.args.steps.now c.answer_of.new.steps c.print_fault.result in
     fault_case run c.in-Err-Fault.file c.print_fault.result case.0
     (record { rose = case.1; ticks = case.3; unread = case.2; held = c.answer_of.ensures.held; writes = c.answer_of.ensures.writes }) c.print_fault.ensures
+
+pub returns-in-Ok-Answer-clause-held : goal.returns-in-Ok-Answer-clause-held
+returns-in-Ok-Answer-clause-held g c =
+    let middle = g.S.Shelf.held c.answer_of.new.shelf in
+    let after = g.S.Shelf.held c.give.new.shelf in
+    let kept = given_keeps _ c.give.result c.give.ensures.case in
+    let named : KeepsOthers (cert_name c.args.words.now) middle after = subst (λ (name : Option (List ℕ)). KeepsOthers name middle after) c.cert_name.ensures kept in
+    inl (subst (λ (held : Option Held). KeepsOthers (cert_name c.args.words.now) held after) c.answer_of.ensures.held named)
+
+pub returns-in-Ok-Answer-clause-untouched : goal.returns-in-Ok-Answer-clause-untouched
+returns-in-Ok-Answer-clause-untouched g c =
+    λ need. c.give.ensures.untouched (c.cert_name.ensures ∙ no_name c.args.words.now need) ∙ c.answer_of.ensures.untouched need
