@@ -2,3 +2,4 @@ pub mod Inputs
 pub mod Times
 pub mod Candidates
 pub mod Shifts
+pub mod Orders

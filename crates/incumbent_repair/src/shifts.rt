@@ -1,9 +1,9 @@
 // The repair that lets a stage wait for its inputs and quote as much more.
 ghost use Rattle.std.specs.Prelude.{◌≡◌, ◌<◌, ◌≤◌, All, IfOk, Some, length, slice_index};
 ghost use Rattle.service_model.specs.Plans.{HasTimes};
-ghost use Rattle.service_model.specs.Orders.{IsTopological};
 ghost use Rattle.service_model.specs.Networks.{IsNetwork};
 ghost use Rattle.service_model.specs.Repairs.{Shift, IsRepairable, IsRepair};
+ghost use Rattle.incumbent_repair.specs.Orders.{HasSuppliersFirst};
 ghost use Rattle.incumbent_repair.specs.Inputs.{HasInputs, IsEarly, latest_input};
 ghost use Rattle.incumbent_repair.specs.Shifts.{KeepsMost, with_shifted};
 ghost use Rattle.incumbent_repair.specs.Candidates.{CandidateOf};
@@ -58,7 +58,7 @@ fn shifted_plan(
     order: &List<u32>,
     plan: &Plan,
 ) -> Result<Plan, NoMemory>
-    requires order { IsTopological (length network.now.stages) network.now.arcs order.now }
+    requires order { HasSuppliersFirst network.now order.now }
     requires plan { IsRepairable network.now plan.now }
     ensures repair { IfOk result (IsRepair Shift network.now plan.now) }
     ensures valid { IsNetwork network.now }
@@ -79,7 +79,7 @@ pub fn shift(
     order: &List<u32>,
     plan: &Plan,
 ) -> Result<Option<Plan>, NoMemory>
-    requires order { IsTopological (length network.now.stages) network.now.arcs order.now }
+    requires order { HasSuppliersFirst network.now order.now }
     requires plan { IsRepairable network.now plan.now }
     ensures { IfOk result (CandidateOf network.now (Some plan.now) Shift) }
 {

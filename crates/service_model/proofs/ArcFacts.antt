@@ -24,7 +24,7 @@ chosen : (test : Bool) (x y : ℕ) → test ≡ true → cond test x y ≡ x
 chosen true x y is = refl
 chosen false x y is = cc
 
-other : (test : Bool) (x y : ℕ) → (test ≡ true → ⊥) → cond test x y ≡ y
+pub other : (test : Bool) (x y : ℕ) → (test ≡ true → ⊥) → cond test x y ≡ y
 other true x y not = absurd (not refl)
 other false x y not = refl
 

@@ -1,3 +1,4 @@
+mod ArcEndFacts
 mod CustomerFacts
 mod CycleFacts
 mod EndFacts

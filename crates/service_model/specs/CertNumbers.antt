@@ -1,5 +1,5 @@
 -- The ranges of a certificate's numbers.
-use Rattle.std.specs.Prelude.{◌≤◌, ℕ, Option, List, All, IfSome}
+use Rattle.std.specs.Prelude.{◌≤◌, All, IfSome}
 use Rattle.service_model.specs.declared.limits.TheConstants.{INF, MAX_TIME}
 use Rattle.service_model.specs.declared.cert_rules.TheConstants.{MAX_NUMBER, MAX_BUDGET}
 use Rattle.service_model.specs.declared.plan.Plan.{Plan}

@@ -1,5 +1,5 @@
 -- What came of a certificate: its head, tables, nodes, splits and verdict, and the ranges and bounds of its nodes.
-use Rattle.std.specs.Prelude.{ℕ, ◌+◌, ◌-◌, ◌*◌, Bool, true, false, nat_lt, nat_le, List, [], ◌∷◌, ◌++◌, slice_index_or, map, Option, Some, None, option_map, unwrap_or}
+use Rattle.std.specs.Prelude.{ℕ, ◌-◌, ◌*◌, Bool, false, nat_lt, nat_le, List, [], ◌∷◌, ◌++◌, slice_index_or, map, Option, Some, None, option_map, unwrap_or}
 use Rattle.service_model.specs.declared.plan.Plan.{Plan}
 use Rattle.service_model.specs.declared.range.Range.{Range}
 use Rattle.service_model.specs.declared.table.Table.{Table}

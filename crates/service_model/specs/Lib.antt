@@ -6,6 +6,7 @@ pub mod Walks
 pub mod Faults
 pub mod Networks
 pub mod Ends
+pub mod ArcEnds
 pub mod Customers
 pub mod Orders
 pub mod Waits

@@ -1,5 +1,5 @@
 -- What is gathered of items, one after another, for their certificate.
-use Rattle.std.specs.Prelude.{◌≡◌, ◌<◌, ◌≤◌, ℕ, ◌+◌, Bool, true, false, not, ◌&&◌, List, [], ◌∷◌, ◌++◌, length, Option, Some, None, is_none, vec_len, vec_capacity, ⊤, if◌then◌else◌}
+use Rattle.std.specs.Prelude.{◌≤◌, ℕ, ◌+◌, Bool, true, not, ◌&&◌, List, [], ◌∷◌, ◌++◌, length, Option, Some, None, is_none, vec_len, vec_capacity, ⊤, if◌then◌else◌}
 use Rattle.service_model.specs.declared.table.Table.{Table}
 use Rattle.service_model.specs.declared.cert.Head.{Head}
 use Rattle.service_model.specs.declared.cert.Node.{Node}

@@ -1,6 +1,7 @@
 //! The model of a supply network: stages, arcs, plans, what a plan costs, and the rules on both.
 #![tactic(auto)]
 
+mod arc_ends;
 mod arc_rules;
 mod breaks;
 mod capped;

@@ -1,6 +1,7 @@
 // A network on which every rule holds.
 ghost use Rattle.std.specs.Prelude.{◌≡◌, ◌+◌, ◌-◌, ◌<◌, ◌≤◌, ◌^◌, List, length};
 
+use crate::arc_ends::ArcEnds;
 use crate::faults::fault_of;
 use crate::{List, MAX_PLAN_COST, NewFault, Plan, Stage, SupplyArc};
 use std::alloc::Global;
@@ -12,6 +13,7 @@ pub struct Network {
     horizon: u16,
     stages: List<Stage>,
     arcs: List<SupplyArc>,
+    ends: ArcEnds,
 }
 
 impl Model for Network {
@@ -19,17 +21,20 @@ impl Model for Network {
 
     ghost Value = { Net };
 
+    ghost use Rattle.std.specs.Prelude.{◌≡◌, map};
     ghost use Rattle.service_model.specs.Networks.{IsNetwork};
+    ghost use Rattle.service_model.specs.ArcEnds.{ends_of};
 
     ghost view = { λ n. record { horizon = n.horizon; stages = n.stages; arcs = n.arcs } };
 
-    ghost invariant = { λ n. IsNetwork (record { horizon = n.horizon; stages = n.stages; arcs = n.arcs }) };
+    ghost invariant = { λ n. IsNetwork (record { horizon = n.horizon; stages = n.stages; arcs = n.arcs }) × (n.ends ≡ map ends_of n.arcs) };
 }
 
 impl Network {
     ghost use Rattle.service_model.specs.Net.{net_of, stage_at};
     ghost use Rattle.service_model.specs.Plans.{Feasible, cost_of, entry_of};
     ghost use Rattle.service_model.specs.Faults.{MakesNetwork};
+    ghost use Rattle.service_model.specs.Tables.{transit_in};
     ghost use Rattle.service_model.specs.Networks.{IsNetwork};
 
     /// The network of these three, or the first rule that fails. On a refusal the lists are given up.
@@ -45,11 +50,15 @@ impl Network {
     {
         match fault_of(alloc, horizon, stages.as_slice(), arcs.as_slice())? {
             Some(fault) => Err(NewFault::Rule(fault)),
-            None => Ok(Network {
-                horizon,
-                stages,
-                arcs,
-            }),
+            None => {
+                let ends = ArcEnds::of(alloc, arcs.as_slice())?;
+                Ok(Network {
+                    horizon,
+                    stages,
+                    arcs,
+                    ends,
+                })
+            }
         }
     }
 
@@ -73,6 +82,18 @@ impl Network {
         ensures valid { IsNetwork self.now }
     {
         &self.arcs
+    }
+
+    /// The transit of the arc from a supplier to a customer, in periods, 0 where there is none. It is found without a pass
+    /// over the arcs.
+    pub fn transit_between(&self, supplier: u32, customer: u32) -> u16
+        ensures value { result ≡ transit_in self.now.arcs supplier customer }
+        ensures valid { IsNetwork self.now }
+    {
+        match self.ends.place_of(supplier, customer) {
+            Some(place) => self.arcs.get(place).transit,
+            None => 0,
+        }
     }
 
     /// The cost of a stage at a net replenishment time, `INF` past its list's end.

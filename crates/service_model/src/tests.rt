@@ -255,6 +255,16 @@ fn a_transit_and_a_time_that_is_not_allowed_break_a_plan(rt: HostRuntime) -> Res
     Ok(())
 }
 
+#[test]
+fn the_transit_of_an_arc_is_found_by_its_ends(rt: HostRuntime) -> Result<(), Fail> {
+    let arcs = [arc(0, 1, 4), arc(2, 1, 3), arc(0, 2, 0)];
+    let network = network(rt.alloc(), 0, &[FREE, FREE, FREE], &arcs)?;
+    assert_eq!(rt; network.transit_between(0, 1), 4);
+    assert_eq!(rt; network.transit_between(2, 1), 3);
+    assert_eq!(rt; network.transit_between(1, 2), 0);
+    Ok(())
+}
+
 // A supplier that takes two periods, and a customer that sells at once.
 fn line(alloc: Global) -> Result<Network, NewFault> {
     let mut stages = List::new(alloc);

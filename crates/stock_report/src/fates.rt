@@ -1,12 +1,11 @@
 // Bounds and splits of nodes, as a certificate holds them.
-ghost use Rattle.std.specs.Prelude.{◌≡◌, ℕ, ◌<◌, ◌==◌, ◌&&◌, ◌∷◌, [], length, slice_index, slice_index_or, All, IfOk};
+ghost use Rattle.std.specs.Prelude.{◌≡◌, ℕ, ◌<◌, ◌∷◌, [], length, slice_index, slice_index_or, All, IfOk};
 ghost use Rattle.std.specs.Option.{option_or};
-ghost use Rattle.service_model.specs.Tables.{transit_in};
 ghost use Rattle.service_model.specs.Nodes.{bound_of};
 ghost use Rattle.service_model.specs.Held.{cut_by};
 ghost use Rattle.stock_report.specs.Explanations.{IsExplainedSplit, split_of_node};
 
-use service_model::{INF, List, Network, NoMemory, Node, Split, SupplyArc, Table};
+use service_model::{INF, List, Network, NoMemory, Node, Split, Table};
 use std::alloc::Global;
 
 /// What the plans of a node with these roots cost at least: the sum of the roots' values, `INF` where that is less.
@@ -65,26 +64,7 @@ pub fn cut_time(network: &Network, nodes: &[Node], split: Split) -> u16
     let Some(plan) = &nodes[split.node as usize].relaxed else {
         unreachable!();
     };
-    let arcs = network.arcs().as_slice();
-    let transit = transit_between(arcs, split.supplier, split.customer);
+    let transit = network.transit_between(split.supplier, split.customer);
     let inbound = *plan.inbound.get(split.customer as usize);
     inbound.saturating_sub(transit)
-}
-
-// The transit of the first arc between two stages, 0 where there is none. It takes one pass over the arcs.
-fn transit_between(arcs: &[SupplyArc], supplier: u32, customer: u32) -> u16
-    ensures { result ≡ transit_in arcs.now supplier customer }
-{
-    'arcs: for arc in arcs {
-        if joins(arc, supplier, customer) {
-            return arc.transit;
-        }
-    }
-    0
-}
-
-fn joins(arc: &SupplyArc, supplier: u32, customer: u32) -> bool
-    ensures { result ≡ ((arc.now.supplier == supplier) && (arc.now.customer == customer)) }
-{
-    arc.supplier == supplier && arc.customer == customer
 }

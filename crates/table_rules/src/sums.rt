@@ -1,23 +1,11 @@
 // What the children of a table cost at least, at each of its stage's times.
 ghost use Rattle.std.specs.Prelude.{◌≡◌, ◌+◌, ◌<◌, ◌≤◌, All, EachIndex, length, slice_index};
-ghost use Rattle.service_model.specs.Tables.{IsSized, table_at, transit_in};
+ghost use Rattle.service_model.specs.Tables.{IsSized, table_at};
 ghost use Rattle.service_model.specs.LocalSums.{capped};
 ghost use Rattle.table_rules.specs.Sums.{AreDownSums, AreUpSums, down_part, up_part};
 
 use crate::leasts::{add_leasts_from, add_leasts_up_to};
-use service_model::{INF, Kind, Network, SupplyArc, Table};
-
-// The transit of the first arc from a supplier to a customer, 0 where there is none.
-fn transit_between(arcs: &[SupplyArc], supplier: u32, customer: u32) -> u16
-    ensures { result ≡ transit_in arcs.now supplier customer }
-{
-    'arcs: for arc in arcs {
-        if arc.supplier == supplier && arc.customer == customer {
-            return arc.transit;
-        }
-    }
-    0
-}
+use service_model::{INF, Kind, Network, Table};
 
 // Adds what a child costs at least at each inbound time.
 fn add_down(network: &Network, child: &Table, stage: u32, sums: &mut [u64])
@@ -25,7 +13,7 @@ fn add_down(network: &Network, child: &Table, stage: u32, sums: &mut [u64])
     ensures { EachIndex sums.new (λ i. slice_index sums.new i ≡ capped (slice_index sums.old i + down_part child.now.kind network.now.arcs child.now stage i)) }
 {
     if child.kind == Kind::Down {
-        let transit = transit_between(network.arcs().as_slice(), child.stage, stage);
+        let transit = network.transit_between(child.stage, stage);
         let start = child.least as usize + transit as usize;
         add_leasts_up_to(child.values.as_slice(), start, sums);
     }
@@ -39,7 +27,7 @@ fn add_up(network: &Network, child: &Table, stage: u32, sums: &mut [u64])
     ensures { EachIndex sums.new (λ o. slice_index sums.new o ≡ capped (slice_index sums.old o + up_part child.now.kind network.now.arcs child.now stage o)) }
 {
     if child.kind == Kind::Up {
-        let transit = transit_between(network.arcs().as_slice(), stage, child.stage);
+        let transit = network.transit_between(stage, child.stage);
         let start = child.floor as usize;
         add_leasts_from(child.values.as_slice(), start, transit as usize, sums);
     }

@@ -3,7 +3,6 @@ ghost use Rattle.std.specs.Prelude.{◌≡◌, ◌<◌, ◌≤◌, ℕ, length, 
 ghost use Rattle.service_model.specs.LocalSums.{least_below};
 ghost use Rattle.tree_tables.specs.Steps.{IsChildPlace};
 
-use crate::sums::transit_between;
 use crate::times::Times;
 use service_model::{INF, Kind, Network, Table};
 
@@ -12,17 +11,16 @@ pub fn child_place(network: &Network, child: &Table, parent: &Table, times: Time
     requires { least_below network.now parent.now times.inbound times.outbound child.now < INF }
     ensures { IsChildPlace network.now child.now parent.now times.inbound times.outbound result }
 {
-    let arcs = network.arcs().as_slice();
     let values = child.values.as_slice();
     match child.kind {
         Kind::Down => {
-            let transit = transit_between(arcs, child.stage, parent.stage);
+            let transit = network.transit_between(child.stage, parent.stage);
             let shift = child.least as usize + transit as usize;
             let end = (times.inbound as usize + 1).saturating_sub(shift);
             least_place(values, 0, end.min(values.len()))
         }
         Kind::Up => {
-            let transit = transit_between(arcs, parent.stage, child.stage);
+            let transit = network.transit_between(parent.stage, child.stage);
             let earliest = times.outbound as usize + transit as usize;
             let from = earliest.saturating_sub(child.floor as usize);
             least_place(values, from, values.len())

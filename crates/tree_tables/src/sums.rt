@@ -1,24 +1,12 @@
 // What the children of a table cost at least, at each of its stage's times.
 ghost use Rattle.std.specs.Prelude.{◌≡◌, ◌+◌, ◌-◌, ◌<◌, ◌≤◌, ◌^◌, All, EachIndex, drop, length, slice_index, take};
-ghost use Rattle.service_model.specs.Tables.{IsSized, transit_in};
+ghost use Rattle.service_model.specs.Tables.{IsSized};
 ghost use Rattle.service_model.specs.LocalSums.{capped, least_of};
 ghost use Rattle.tree_tables.specs.Fills.{AreChildren};
 ghost use Rattle.tree_tables.specs.Sums.{AreDownSums, AreUpSums, down_part, up_part};
 
 use crate::Filled;
-use service_model::{INF, Kind, Network, SupplyArc, Table, capped_add};
-
-/// The transit of the first arc from a supplier to a customer, 0 where there is none.
-pub fn transit_between(arcs: &[SupplyArc], supplier: u32, customer: u32) -> u16
-    ensures { result ≡ transit_in arcs.now supplier customer }
-{
-    'arcs: for arc in arcs {
-        if arc.supplier == supplier && arc.customer == customer {
-            return arc.transit;
-        }
-    }
-    0
-}
+use service_model::{INF, Kind, Network, Table, capped_add};
 
 /// Adds what the children cost at least at each inbound time to sums of 0.
 pub fn add_down_sums(
@@ -62,7 +50,7 @@ fn add_down(network: &Network, child: &Table, stage: u32, sums: &mut [u64])
     ensures { EachIndex sums.new (λ i. slice_index sums.new i ≡ capped (slice_index sums.old i + down_part child.now.kind network.now.arcs child.now stage i)) }
 {
     if child.kind == Kind::Down {
-        let transit = transit_between(network.arcs().as_slice(), child.stage, stage);
+        let transit = network.transit_between(child.stage, stage);
         let shift = child.least as usize + transit as usize;
         add_front_leasts(child.values.as_slice(), shift, sums);
     }
@@ -77,7 +65,7 @@ fn add_up(network: &Network, child: &Table, stage: u32, sums: &mut [u64])
     ensures { EachIndex sums.new (λ o. slice_index sums.new o ≡ capped (slice_index sums.old o + up_part child.now.kind network.now.arcs child.now stage o)) }
 {
     if child.kind == Kind::Up {
-        let transit = transit_between(network.arcs().as_slice(), stage, child.stage);
+        let transit = network.transit_between(stage, child.stage);
         add_rest_leasts(
             child.values.as_slice(),
             transit as usize,

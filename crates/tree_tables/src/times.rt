@@ -1,5 +1,5 @@
 // The times of a stage at which a value of its table is attained.
-ghost use Rattle.std.specs.Prelude.{◌≡◌, ◌+◌, ◌<◌, ◌≤◌, ◌^◌, ℕ, length, slice_index};
+ghost use Rattle.std.specs.Prelude.{◌≡◌, ◌+◌, ◌<◌, ◌≤◌, ◌^◌, ℕ, All, length, slice_index};
 ghost use Rattle.service_model.specs.Tables.{IsSized};
 ghost use Rattle.tree_tables.specs.Fills.{IsFill};
 ghost use Rattle.tree_tables.specs.Steps.{window, IsInWindow, Attains};
@@ -38,13 +38,37 @@ pub fn times_at(network: &Network, made: &[Filled], table: &Table, place: usize)
     requires reached { slice_index table.now.values place < INF }
     ensures { Attains network.now made.now table.now place result.inbound result.outbound }
 {
-    let stage = network.stages().get(table.stage as usize);
-    let children = table.children.as_slice();
+    let times = network.horizon() as usize + 1;
     let mut down = [0u64; TIMES];
     let mut up = [0u64; TIMES];
-    add_down_sums(network, made, table.stage, children, &mut down);
-    add_up_sums(network, made, table.stage, children, &mut up);
-    let sums = LocalSums::new(stage, &down, &up);
+    let down = &mut down[..times];
+    let up = &mut up[..times];
+    times_over(network, made, table, place, down, up)
+}
+
+// The same, with room for the sums over the children at each time up to the horizon.
+fn times_over(
+    network: &Network,
+    made: &[Filled],
+    table: &Table,
+    place: usize,
+    down: &mut [u64],
+    up: &mut [u64],
+) -> Times
+    requires filled { IsFill network.now made.now table.now }
+    requires within { place < length table.now.values }
+    requires reached { slice_index table.now.values place < INF }
+    requires down { All (λ x. x ≡ 0) down.old }
+    requires down_times { length down.old ≡ network.now.horizon + 1 }
+    requires up { All (λ x. x ≡ 0) up.old }
+    requires up_times { length up.old ≡ network.now.horizon + 1 }
+    ensures { Attains network.now made.now table.now place result.inbound result.outbound }
+{
+    let stage = network.stages().get(table.stage as usize);
+    let children = table.children.as_slice();
+    add_down_sums(network, made, table.stage, children, down);
+    add_up_sums(network, made, table.stage, children, up);
+    let sums = LocalSums::new(stage, down, up);
     least_times(&sums, window_of(network, table, place))
 }
 

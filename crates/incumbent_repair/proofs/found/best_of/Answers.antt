@@ -1,6 +1,10 @@
 use Rattle.std.proofs.Common.{Some}
 use Rattle.incumbent_repair.proofs.FoundFacts.{found_from}
+use Rattle.incumbent_repair.proofs.ShiftFacts.{suppliers_first}
 use Rattle.incumbent_repair.proofs.found.best_of.Goals as goal
+
+pub shift-requires-clause-order : goal.shift-requires-clause-order
+shift-requires-clause-order c = suppliers_first c.args.network.now c.args.order.now c.requires.order
 
 pub returns : goal.returns
 returns c =

@@ -1,6 +1,5 @@
 -- The place of the least value, of a Down and of an Up child.
-use Rattle.std.proofs.Common.{List, ◌≡◌, length, ap, ◌∙◌, arith}
-use Rattle.service_model.specs.declared.stage.SupplyArc.{SupplyArc}
+use Rattle.std.proofs.Common.{◌≡◌, length, ap, arith}
 use Rattle.service_model.specs.Tables.{transit_in}
 use Rattle.tree_tables.proofs.PlaceFacts.{down_place, up_place}
 use Rattle.tree_tables.proofs.places.child_place.Goals as goal
@@ -10,9 +9,7 @@ returns-in-Down c =
     let n = c.args.network.now in
     let child = c.args.child.now in
     let t = c.args.parent.now in
-    let arcs = c.as_slice-arcs.ensures ∙ c.arcs.ensures.value in
-    let transit : c.transit_between-transit.result ≡ transit_in n.arcs child.stage t.stage =
-    c.transit_between-transit.ensures ∙ ap (λ (as' : List SupplyArc). transit_in as' child.stage t.stage) arcs in
+    let transit : c.transit_between-transit.result ≡ transit_in n.arcs child.stage t.stage = c.transit_between-transit.ensures.value in
     let long = ap length c.as_slice-values.ensures in
     down_place n child t c.args.times.inbound c.args.times.outbound _ c.min.result c.as_slice-values.result.now c.in-Down.is c.requires
     c.as_slice-values.ensures (omega (arith, transit, long))
@@ -23,9 +20,7 @@ returns-in-Up c =
     let n = c.args.network.now in
     let child = c.args.child.now in
     let t = c.args.parent.now in
-    let arcs = c.as_slice-arcs.ensures ∙ c.arcs.ensures.value in
-    let transit : c.transit_between-transit-in-Up.result ≡ transit_in n.arcs t.stage child.stage =
-    c.transit_between-transit-in-Up.ensures ∙ ap (λ (as' : List SupplyArc). transit_in as' t.stage child.stage) arcs in
+    let transit : c.transit_between-transit-in-Up.result ≡ transit_in n.arcs t.stage child.stage = c.transit_between-transit-in-Up.ensures.value in
     let least = c.least_place-in-Up.ensures in
     up_place n child t c.args.times.inbound c.args.times.outbound _ c.saturating_sub-from.result (length c.as_slice-values.result.now)
     c.as_slice-values.result.now c.in-Up.is c.requires c.as_slice-values.ensures (omega (arith, transit)) (ap length c.as_slice-values.ensures)

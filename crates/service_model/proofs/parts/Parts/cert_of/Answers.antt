@@ -1,7 +1,7 @@
-use Rattle.std.proofs.Common.{rules, ◌≡◌, ◌∷◌, List, [], length, refl, sym, ap, ◌∙◌, subst, arith}
+use Rattle.std.proofs.Common.{rules, List, length, refl, sym, ap, ◌∙◌, subst, arith}
 use Rattle.std.specs.Vec.Iter.{into_iter_items}
 use Rattle.service_model.specs.declared.cert.Item.{Item}
-use Rattle.service_model.specs.Parts.{gathered_by, none_gathered, with_items, cert_by, HasRoom}
+use Rattle.service_model.specs.Parts.{gathered_by, with_items, cert_by, HasRoom}
 use Rattle.service_model.proofs.PartFacts.{room_of_first, cert_gathered, none_left}
 use Rattle.service_model.proofs.parts.Parts.cert_of.Goals as goal
 

@@ -4,7 +4,7 @@ use Rattle.service_model.specs.declared.stage.Stage.{Stage}
 use Rattle.service_model.specs.Net.{no_stage}
 use Rattle.tree_tables.specs.Sums.{AreDownSums, AreUpSums}
 use Rattle.tree_tables.proofs.TimeFacts.{attained}
-use Rattle.tree_tables.proofs.times.times_at.Goals as goal
+use Rattle.tree_tables.proofs.times.times_over.Goals as goal
 
 pub returns : goal.returns
 returns c =
