@@ -1,7 +1,6 @@
 -- A task that is done, or a refusal, is the answer.
-use Rattle.std.proofs.Common.{◌≡◌, ◌≤◌, ℕ, ◌+◌, ◌-◌, Bool, true, false, List, [], ◌∷◌, Option, Some, None, Result, Ok, Err, refl, sym, subst, ap, ◌∙◌, ◌⊎◌, inl, inr, arith}
-use Rattle.std.specs.Option.{IfSome}
-use Rattle.std.specs.Result.{MatchResult, IsOk, IsErr}
+use Rattle.std.proofs.Common.{◌≡◌, ◌≤◌, ℕ, ◌+◌, ◌-◌, Bool, true, false, List, [], ◌∷◌, Option, Result, Ok, Err, refl, sym, subst, ap, ◌∙◌, ◌⊎◌, inl, inr, arith}
+use Rattle.std.specs.Result.{IsOk, IsErr}
 use Rattle.std.proofs.lemmas.Bool.{false≢true}
 use Rattle.gsm_outside.specs.Held.{Held}
 use Rattle.service_model.specs.declared.cert.Outcome.{Outcome}
@@ -32,7 +31,7 @@ use Rattle.edit_reuse.specs.Sessions.{State}
 use Rattle.planner_top.specs.Sessions.{AsksSession}
 use Rattle.planner_top.specs.declared.answer.Reply.{Reply}
 use Rattle.planner_top.specs.declared.answer.Reply.TheVariants as reply
-use Rattle.planner_top.specs.Answers.{IsProblem, IsRefusal, MayEnd, ending_of, IsAnswer, IsTextOf}
+use Rattle.planner_top.specs.Answers.{IsProblem, IsRefusal, MayEnd, ending_of, IsAnswer}
 use Rattle.planner_top.specs.Done.{IsSolution, IsAudit, IsCheck, IsDone, ending_by}
 use Rattle.service_model.specs.declared.plan.Plan.{Plan}
 use Rattle.service_model.specs.Plans.{Feasible}
@@ -144,30 +143,20 @@ not_refused words q is err = (let none = rw is at err in cc)
 no_rule : (words : List (List ℕ)) (q : Asked) (fault : WordFault) → asked_of words ≡ Ok q → asked_of words ≡ Err fault → ⊥
 no_rule words q fault is also = cc
 
-told_done : (words : List (List ℕ)) (held : Option Held) (e : Ending) (rows : List (List (List ℕ))) (filled : ℕ) (cert : Option (List ℕ)) (t : Task) → IfSome held (λ m. IsProblem words m (Ok t)) → IsDone e rows filled cert t
-    → IfSome held (λ m. (problem : Result Task Stop) × IsProblem words m problem × MatchResult problem (IsDone e rows filled cert) (IsRefusal e rows filled cert))
-told_done words None e rows filled cert t is done = tt
-told_done words (Some m) e rows filled cert t is done = (Ok t, is, done)
-
 pub done_answer : (words : List (List ℕ)) (held : Option Held) (e : Ending) (rows : List (List (List ℕ))) (filled : ℕ) (cert : Option (List ℕ)) (t : Task) → IsReady t → ((q : Asked) × (asked_of words ≡ Ok q) × (command_of t ≡ q.command))
-    → IfSome held (λ m. IsProblem words m (Ok t)) → filled ≤ MOST_FILLED → IsDone e rows filled cert t → IsAnswer words held e rows filled cert
+    → IsProblem words held (Ok t) → filled ≤ MOST_FILLED → IsDone e rows filled cert t → IsAnswer words held e rows filled cert
 done_answer words held e rows filled cert t ready asked is few done = record {
   words = (λ same. absurd (not_words t rows filled cert (subst (λ (x : Ending). IsDone x rows filled cert t) same done)), λ err. absurd (not_refused words asked.0 asked.1 err));
   rule = λ fault also. absurd (no_rule words asked.0 fault asked.1 also);
   own = λ q also. subst (λ (x : Command). MayEnd x e) (asked.2 ∙ ap (λ (x : Asked). x.command) (one_asked words asked.0 q asked.1 also)) (done_may_end t e rows filled cert ready done);
   few = few;
-  told = told_done words held e rows filled cert t is done;
+  told = (Ok t, is, done);
 }
 
 refused_may_end : (c : Command) (s : Stop) → MayEnd c (ending_of s)
 refused_may_end c (stop.Words fault) = tt
 refused_may_end c (stop.TooLong word) = tt
 refused_may_end c (stop.Refused fault) = tt
-
-told_refused : (words : List (List ℕ)) (held : Option Held) (e : Ending) (rows : List (List (List ℕ))) (filled : ℕ) (cert : Option (List ℕ)) (s : Stop) → IfSome held (λ m. IsProblem words m (Err s)) → IsRefusal e rows filled cert s
-    → IfSome held (λ m. (problem : Result Task Stop) × IsProblem words m problem × MatchResult problem (IsDone e rows filled cert) (IsRefusal e rows filled cert))
-told_refused words None e rows filled cert s is line = tt
-told_refused words (Some m) e rows filled cert s is line = (Err s, is, line)
 
 words_rule : (words : List (List ℕ)) (rows : List (List (List ℕ))) (s : Stop) (fault : WordFault) → TellsWords words s → rows ≡ stop_row s ∷ [] → asked_of words ≡ Err fault → rows ≡ stop_row (stop.Words fault) ∷ []
 words_rule words rows (stop.Words f) fault tells line also = (let same : f ≡ fault = cc in line ∙ ap (λ (x : WordFault). stop_row (stop.Words x) ∷ []) same)
@@ -188,13 +177,13 @@ words_exactly words (stop.Refused f) tells = (λ same. cc, λ err. absurd (ok_no
     ok_not_err (Err g) ok err = cc
 
 pub refused_answer : (words : List (List ℕ)) (held : Option Held) (e : Ending) (rows : List (List (List ℕ))) (filled : ℕ) (cert : Option (List ℕ)) (s : Stop) → TellsWords words s
-    → IfSome held (λ m. IsProblem words m (Err s)) → IsRefusal e rows filled cert s → IsAnswer words held e rows filled cert
+    → IsProblem words held (Err s) → IsRefusal e rows filled cert s → IsAnswer words held e rows filled cert
 refused_answer words held e rows filled cert s tells is line = record {
   words = (λ same. (words_exactly words s tells).0 (sym line.0 ∙ same), λ err. line.0 ∙ (words_exactly words s tells).1 err);
   rule = λ fault also. words_rule words rows s fault tells line.1 also;
   own = λ q also. subst (λ (x : Ending). MayEnd q.command x) (sym line.0) (refused_may_end q.command s);
   few = (let none = line.2 in omega (arith, none));
-  told = told_refused words held e rows filled cert s is line;
+  told = (Err s, is, line);
 }
 
 -- a reply that is an answer

@@ -32,7 +32,7 @@ use Rattle.planner_top.specs.declared.stop.Unsolved.TheVariants as unsolved
 use Rattle.edit_reuse.specs.Refusals as reuse
 use Rattle.edit_reuse.specs.Sessions.{State, IsOver, NewCase}
 use Rattle.planner_top.specs.Tasks.{files_in, raw_in, IsLastFault, IsFirstRefused, trial_files}
-use Rattle.planner_top.specs.Ready.{AreReadRows, AreReadFiles, MayBeTold}
+use Rattle.planner_top.specs.Ready.{AreReadRows, AreReadFiles}
 use Rattle.planner_top.specs.TaskCases.{TaskCase, TogetherCase, LastCase, SearchCase, TrialCase}
 use Rattle.planner_top.specs.Stops.{unsolved_by}
 use Rattle.planner_top.proofs.TaskFacts.{by_records, plan_has_times}

@@ -1,6 +1,5 @@
 -- What the answers of the commands say, by their texts.
 use Rattle.std.proofs.Common.{◌≡◌, ◌-◌, ℕ, List, [], ◌∷◌, length, Option, Some, None, Result, Ok, Err, refl, ap, ◌∙◌, arith}
-use Rattle.std.specs.Prelude.{IfOk}
 use Rattle.service_model.specs.declared.plan.Plan.{Plan}
 use Rattle.service_model.specs.declared.breaks.Break.{Break}
 use Rattle.service_model.specs.declared.cert.Verdict.{Verdict}

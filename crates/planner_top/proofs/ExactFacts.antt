@@ -1,6 +1,5 @@
 -- Each ending comes exactly where its cause is.
 use Rattle.std.proofs.Common.{◌≡◌, ◌<◌, ◌≤◌, ◌↔◌, ℕ, ◌==◌, true, false, List, Option, Some, None, Result, Ok, Err, refl, sym, ap, ◌∙◌, subst, inl, inr, arith}
-use Rattle.std.specs.Option.{IfSome}
 use Rattle.std.specs.Result.{MatchResult}
 use Rattle.std.proofs.lemmas.Bool.{false≢true}
 use Rattle.std.proofs.lemmas.Bool.Decides.{nat_tests}
@@ -240,10 +239,10 @@ one_stop : (s u : Stop) → stopped s ≡ stopped u → s ≡ u
 one_stop s u same = cc
 
 -- an ending of a task comes exactly where its cause is, since words and files ask for one thing
-task_exactly : (words : List (List ℕ)) (m : Held) (t : Task) (e : Ending) → IsProblem words m (Ok t) → EndsExactly t e → Exactly words m e
+task_exactly : (words : List (List ℕ)) (m : Held) (t : Task) (e : Ending) → IsProblem words (Some m) (Ok t) → EndsExactly t e → Exactly words m e
 task_exactly words m t e is by =
-    let one : (u : Task) → IsProblem words m (Ok u) → t ≡ u = λ u also. one_found t u (one_problem words m (Ok t) (Ok u) is also) in
-    let none : (s : Stop) → IsProblem words m (Err s) → ⊥ = λ s also. not_stopped s t (one_problem words m (Err s) (Ok t) also is) in
+    let one : (u : Task) → IsProblem words (Some m) (Ok u) → t ≡ u = λ u also. one_found t u (one_problem words m (Ok t) (Ok u) is also) in
+    let none : (s : Stop) → IsProblem words (Some m) (Err s) → ⊥ = λ s also. not_stopped s t (one_problem words m (Err s) (Ok t) also is) in
     record {
       words = (λ same. absurd (own_apart same by.own (omega arith)), λ cause. absurd (none (stop.Words cause.0) cause.1));
       too_long = (λ same. absurd (own_apart same by.own (omega arith)), λ cause. absurd (none (stop.TooLong cause.0) cause.1));
@@ -258,7 +257,7 @@ task_exactly words m t e is by =
     }
 
 -- so does that of a refusal, which is one of the three
-stop_exactly : (words : List (List ℕ)) (m : Held) (s : Stop) → IsProblem words m (Err s) → Exactly words m (ending_of s)
+stop_exactly : (words : List (List ℕ)) (m : Held) (s : Stop) → IsProblem words (Some m) (Err s) → Exactly words m (ending_of s)
 stop_exactly words m s is = record {
   words = (from_words s is, λ cause. ap ending_of (one_stop s (stop.Words cause.0) (one_problem words m (Err s) (Err (stop.Words cause.0)) is cause.1)));
   too_long = (from_long s is, λ cause. ap ending_of (one_stop s (stop.TooLong cause.0) (one_problem words m (Err s) (Err (stop.TooLong cause.0)) is cause.1)));
@@ -272,7 +271,7 @@ stop_exactly words m s is = record {
   spent = λ same. absurd (own_apart (sym same) (omega arith) (late s));
 }
   where
-    none : (t : Task) → IsProblem words m (Ok t) → ⊥
+    none : (t : Task) → IsProblem words (Some m) (Ok t) → ⊥
     none t also = not_stopped s t (one_problem words m (Err s) (Ok t) is also)
 
     late : (u : Stop) → 5 ≤ number (ending_of u)
@@ -280,33 +279,31 @@ stop_exactly words m s is = record {
     late (stop.TooLong word) = omega arith
     late (stop.Refused fault) = omega arith
 
-    from_words : (u : Stop) → IsProblem words m (Err u) → ending_of u ≡ ending.Words → (fault : WordFault) × IsProblem words m (Err (stop.Words fault))
+    from_words : (u : Stop) → IsProblem words (Some m) (Err u) → ending_of u ≡ ending.Words → (fault : WordFault) × IsProblem words (Some m) (Err (stop.Words fault))
     from_words (stop.Words fault) is same = (fault, is)
     from_words (stop.TooLong word) is same = absurd (apart same refl)
     from_words (stop.Refused fault) is same = absurd (apart same refl)
 
-    from_long : (u : Stop) → IsProblem words m (Err u) → ending_of u ≡ ending.TooLong → (word : FileWord) × IsProblem words m (Err (stop.TooLong word))
+    from_long : (u : Stop) → IsProblem words (Some m) (Err u) → ending_of u ≡ ending.TooLong → (word : FileWord) × IsProblem words (Some m) (Err (stop.TooLong word))
     from_long (stop.Words fault) is same = absurd (apart same refl)
     from_long (stop.TooLong word) is same = (word, is)
     from_long (stop.Refused fault) is same = absurd (apart same refl)
 
-    from_rule : (u : Stop) → IsProblem words m (Err u) → ending_of u ≡ ending.Refused → (fault : FileFault) × IsProblem words m (Err (stop.Refused fault))
+    from_rule : (u : Stop) → IsProblem words (Some m) (Err u) → ending_of u ≡ ending.Refused → (fault : FileFault) × IsProblem words (Some m) (Err (stop.Refused fault))
     from_rule (stop.Words fault) is same = absurd (apart same refl)
     from_rule (stop.TooLong word) is same = absurd (apart same refl)
     from_rule (stop.Refused fault) is same = (fault, is)
 
-answer_exactly : (words : List (List ℕ)) (m : Held) (problem : Result Task Stop) (e : Ending) (rows : List (List (List ℕ))) (filled : ℕ) (cert : Option (List ℕ)) → IsProblem words m problem → MatchResult problem (IsDone e rows filled cert) (IsRefusal e rows filled cert) → Exactly words m e
+answer_exactly : (words : List (List ℕ)) (m : Held) (problem : Result Task Stop) (e : Ending) (rows : List (List (List ℕ))) (filled : ℕ) (cert : Option (List ℕ)) → IsProblem words (Some m) problem → MatchResult problem (IsDone e rows filled cert) (IsRefusal e rows filled cert) → Exactly words m e
 answer_exactly words m (Ok t) e rows filled cert is done = task_exactly words m t e is (done_exactly t e rows filled cert done)
 answer_exactly words m (Err s) e rows filled cert is line = subst (λ (x : Ending). Exactly words m x) (sym line.0) (stop_exactly words m s is)
 
 -- an answer comes exactly where its cause is, on a shelf that tells what it holds
 pub told_exactly : (words : List (List ℕ)) (held : Option Held) (m : Held) (e : Ending) (rows : List (List (List ℕ))) (filled : ℕ) (cert : Option (List ℕ)) → held ≡ Some m → IsAnswer words held e rows filled cert → Exactly words m e
-told_exactly words held m e rows filled cert told is =
-    let there = subst (λ (h : Option Held). IfSome h (λ x. (problem : Result Task Stop) × IsProblem words x problem × MatchResult problem (IsDone e rows filled cert) (IsRefusal e rows filled cert))) told is.told in
-    answer_exactly words m there.0 e rows filled cert there.1 there.2
+told_exactly words held m e rows filled cert tells is =
+    answer_exactly words m is.told.0 e rows filled cert (subst (λ (h : Option Held). IsProblem words h is.told.0) tells is.told.1) is.told.2
 
 -- and a session that was carried out comes exactly where it is asked for
-pub carried_exactly : (words : List (List ℕ)) (held : Option Held) (m : Held) (s : State) (script : List (List (List ℕ))) → held ≡ Some m → IfSome held (λ m. IsProblem words m (Ok (task.Session s script))) → Exactly words m ending.Done
-carried_exactly words held m s script told is =
-    let there = subst (λ (h : Option Held). IfSome h (λ x. IsProblem words x (Ok (task.Session s script)))) told is in
-    task_exactly words m (task.Session s script) ending.Done there (session_exactly s script)
+pub carried_exactly : (words : List (List ℕ)) (held : Option Held) (m : Held) (s : State) (script : List (List (List ℕ))) → held ≡ Some m → IsProblem words held (Ok (task.Session s script)) → Exactly words m ending.Done
+carried_exactly words held m s script tells is =
+    task_exactly words m (task.Session s script) ending.Done (subst (λ (h : Option Held). IsProblem words h (Ok (task.Session s script))) tells is) (session_exactly s script)

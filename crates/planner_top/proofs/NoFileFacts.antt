@@ -1,5 +1,5 @@
 -- Words that need no file name none that is written, and ask for no file that is read.
-use Rattle.std.proofs.Common.{◌≡◌, ℕ, Bool, true, false, not, List, drop, Option, Some, None, Result, Ok, Err, refl, subst}
+use Rattle.std.proofs.Common.{◌≡◌, ℕ, Bool, true, false, not, List, drop, Option, Some, None, Result, Ok, refl, subst}
 use Rattle.std.specs.Prelude.{IsTrue, ⊤}
 use Rattle.std.specs.Result.{MatchResult}
 use Rattle.command_words.specs.declared.command.Command.{Command}

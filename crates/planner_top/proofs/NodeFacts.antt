@@ -1,5 +1,5 @@
 -- A search has no more ranges than its budget.
-use Rattle.std.proofs.Common.{◌≡◌, ◌≤◌, ℕ, ◌+◌, List, [], ◌∷◌, length, Option, Some, None, Result, Ok, Err, subst, arith}
+use Rattle.std.proofs.Common.{◌≡◌, ◌≤◌, ℕ, List, [], ◌∷◌, length, Option, Some, None, Result, Ok, Err, subst, arith}
 use Rattle.std.specs.Prelude.{IfOk, is_none, option_map, unwrap_or}
 use Rattle.std.proofs.lemmas.List.{length-append}
 use Rattle.service_model.specs.declared.cert_rules.TheConstants.{HEAD, BUDGET}
@@ -8,7 +8,7 @@ use Rattle.service_model.specs.declared.cert.Cert.{Cert}
 use Rattle.service_model.specs.declared.cert.Item.{Item}
 use Rattle.service_model.specs.declared.cert.Item.TheVariants.{Head as HeadItem, Table as TableItem, Node as NodeItem, Split as SplitItem, End as EndItem}
 use Rattle.service_model.specs.Net.{Net}
-use Rattle.service_model.specs.Items.{is_head, items_from, items_of}
+use Rattle.service_model.specs.Items.{is_head, items_from}
 use Rattle.service_model.specs.Held.{Held, none_held, held_with, held_after, budget_of}
 use Rattle.service_model.specs.CertRules.{Keeps}
 use Rattle.service_model.specs.Certs.{AllKeep}

@@ -1,13 +1,12 @@
 -- What a status says of a run that carried out a session.
-use Rattle.std.proofs.Common.{◌≡◌, ◌≤◌, ℕ, ◌+◌, List, Option, Result, Ok, Err, refl, subst, sym, arith, inl, inr}
+use Rattle.std.proofs.Common.{◌≡◌, ◌≤◌, ℕ, ◌+◌, List, Result, Ok, Err, refl, arith, inl, inr}
 use Rattle.command_words.specs.Asked.{Asked, asked_of, cert_name}
 use Rattle.command_words.specs.declared.command.Command.{Command}
 use Rattle.command_words.specs.declared.command.Command.TheVariants as command
 use Rattle.command_words.specs.declared.word_fault.WordFault.{WordFault}
 use Rattle.edit_reuse.specs.Sessions.{State}
 use Rattle.script_run.specs.declared.halt.Halt.TheVariants as halt
-use Rattle.script_run.specs.Halts.{outside_of, IsHalted}
-use Rattle.script_run.proofs.HaltFacts.{IsLaterOutside, halted_later, carried_later}
+use Rattle.script_run.proofs.HaltFacts.{halted_later, carried_later}
 use Rattle.planner_top.specs.declared.filled.TheConstants.{MOST_FILLED, MOST_IN_SESSION}
 use Rattle.planner_top.specs.declared.status.Status.{Status}
 use Rattle.planner_top.specs.declared.status.Status.TheVariants as status

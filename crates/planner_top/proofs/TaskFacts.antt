@@ -1,5 +1,5 @@
 -- What words and files ask to be done is one thing.
-use Rattle.std.proofs.Common.{◌≡◌, ℕ, List, length, Option, Some, None, Result, Ok, Err, refl, sym, subst, ap, ◌∙◌}
+use Rattle.std.proofs.Common.{◌≡◌, ℕ, List, length, Option, Some, None, Result, Ok, Err, refl, sym, subst, ap, ◌∙◌, inl, inr}
 use Rattle.std.specs.Option.{MatchOption}
 use Rattle.std.specs.Result.{MatchResult}
 use Rattle.std.proofs.lemmas.List.{length-map}
@@ -30,14 +30,11 @@ use Rattle.planner_top.specs.declared.task.Task.{Task}
 use Rattle.planner_top.specs.declared.task.Task.TheVariants as task
 use Rattle.planner_top.specs.declared.task.Report.{Report}
 use Rattle.planner_top.specs.declared.task.Report.TheVariants as report
-use Rattle.planner_top.specs.declared.task.Detail.{Detail}
 use Rattle.planner_top.specs.declared.task.Detail.TheVariants as detail
 use Rattle.command_words.specs.declared.file_word.FileWord.{FileWord}
 use Rattle.planner_top.specs.declared.stop.Stop.{Stop}
 use Rattle.planner_top.specs.declared.stop.Stop.TheVariants as stop
 use Rattle.command_words.specs.Asked.{Asked, asked_of}
-use Rattle.request_files.specs.Lengths.{too_long_of}
-use Rattle.request_files.specs.Contents.{contents_of}
 use Rattle.edit_reuse.specs.declared.budget.Budgeted.{Budgeted}
 use Rattle.edit_reuse.specs.Refusals.{AreBudgeted}
 use Rattle.edit_reuse.specs.Sessions.{State, state_of, IsOver}
@@ -155,10 +152,14 @@ one_task c ranges horizon contents a b is also = from a b is also
     from (Err (stop.Words f)) b is also = absurd is
     from (Err (stop.TooLong w)) b is also = absurd is
 
-one_unless_long : (long : Option FileWord) (c : Command) (ranges : Option ℕ) (horizon : ℕ) (contents : Contents) (a b : Result Task Stop)
-    → MatchOption long (IsTask c ranges horizon contents a) (λ word. a ≡ Err (stop.TooLong word)) → MatchOption long (IsTask c ranges horizon contents b) (λ word. b ≡ Err (stop.TooLong word)) → a ≡ b
-one_unless_long None c ranges horizon contents a b is also = one_task c ranges horizon contents a b is also
-one_unless_long (Some word) c ranges horizon contents a b is also = is ∙ sym also
+-- what files that a shelf tells ask is one thing
+one_by_files : (q : Asked) (m : Held) (a b : Result Task Stop) → IsFilesProblem q (Some m) a → IsFilesProblem q (Some m) b → a ≡ b
+one_by_files q m a b (inl (c, have, is)) (inl (d, having, also)) =
+    let same : d ≡ c = having.1.1 ∙ sym have.1.1 in
+    one_task q.command q.ranges q.horizon c a b is (subst (λ (x : Contents). IsTask q.command q.ranges q.horizon x b) same also)
+one_by_files q m a b (inl (c, have, is)) (inr (word, long, also)) = (let none = have.1.0 in cc)
+one_by_files q m a b (inr (word, long, is)) (inl (d, having, also)) = (let none = having.1.0 in cc)
+one_by_files q m a b (inr (word, long, is)) (inr (other, longer, also)) = (let same : word ≡ other = cc in is ∙ ap (λ (x : FileWord). Err (stop.TooLong x)) same ∙ sym also)
 
 -- the rule on the budget, by the files of a trial
 abbrev trial_last : TrialNumbers → Option ℕ → ℕ → Option FileFault → Type 0
@@ -184,17 +185,17 @@ one_trial t ranges horizon a b is also = from a b is also
     from (Err (stop.TooLong w)) b is also = absurd is
 
 one_of_kind : (trial : Option TrialNumbers) (q : Asked) (m : Held) (a b : Result Task Stop)
-    → MatchOption trial (IsFilesProblem q m a) (λ t. IsTrialTask t q.ranges q.horizon a) → MatchOption trial (IsFilesProblem q m b) (λ t. IsTrialTask t q.ranges q.horizon b) → a ≡ b
-one_of_kind None q m a b is also = one_unless_long (too_long_of q m) q.command q.ranges q.horizon (contents_of q m) a b is also
+    → MatchOption trial (IsFilesProblem q (Some m) a) (λ t. IsTrialTask t q.ranges q.horizon a) → MatchOption trial (IsFilesProblem q (Some m) b) (λ t. IsTrialTask t q.ranges q.horizon b) → a ≡ b
+one_of_kind None q m a b is also = one_by_files q m a b is also
 one_of_kind (Some t) q m a b is also = one_trial t q.ranges q.horizon a b is also
 
 one_asked : (asked : Result Asked WordFault) (m : Held) (a b : Result Task Stop)
-    → MatchResult asked (λ q. IsAskedProblem q m a) (λ fault. a ≡ Err (stop.Words fault)) → MatchResult asked (λ q. IsAskedProblem q m b) (λ fault. b ≡ Err (stop.Words fault)) → a ≡ b
+    → MatchResult asked (λ q. IsAskedProblem q (Some m) a) (λ fault. a ≡ Err (stop.Words fault)) → MatchResult asked (λ q. IsAskedProblem q (Some m) b) (λ fault. b ≡ Err (stop.Words fault)) → a ≡ b
 one_asked (Ok q) m a b is also = one_of_kind q.trial q m a b is also
 one_asked (Err fault) m a b is also = is ∙ sym also
 
--- what words and files ask to be done, or why they are refused, is one thing
-pub one_problem : (words : List (List ℕ)) (m : Held) (a b : Result Task Stop) → IsProblem words m a → IsProblem words m b → a ≡ b
+-- what words ask to be done on a shelf that tells, or why they are refused, is one thing
+pub one_problem : (words : List (List ℕ)) (m : Held) (a b : Result Task Stop) → IsProblem words (Some m) a → IsProblem words (Some m) b → a ≡ b
 one_problem words m a b is also = one_asked (asked_of words) m a b is also
 
 -- what a command does is a task of its own

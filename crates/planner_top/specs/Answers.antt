@@ -1,10 +1,12 @@
 -- What a run answers to its words and files, where no call on the outside failed and memory sufficed.
-use Rattle.std.specs.Prelude.{◌≡◌, ◌≢◌, ◌≤◌, ◌↔◌, ◌⊎◌, ℕ, List, [], ◌∷◌, Option, None, Result, Ok, Err, IsErr, MatchResult, MatchOption, IfSome, ⊤}
+use Rattle.std.specs.Prelude.{◌≡◌, ◌≢◌, ◌≤◌, ◌↔◌, ◌⊎◌, ℕ, List, [], ◌∷◌, Option, None, Some, Result, Ok, Err, IsErr, MatchResult, MatchOption, IfSome, ⊤}
 use Rattle.gsm_outside.specs.Held.{Held}
 use Rattle.command_words.specs.Asked.{Asked, asked_of}
-use Rattle.request_files.specs.Lengths.{too_long_of}
+use Rattle.request_files.specs.Lengths.{too_long_of, AreShort}
+use Rattle.request_files.specs.declared.contents.Contents.{Contents}
 use Rattle.request_files.specs.Contents.{contents_of}
 use Rattle.command_words.specs.declared.command.Command.{Command}
+use Rattle.command_words.specs.declared.file_word.FileWord.{FileWord}
 use Rattle.command_words.specs.declared.word_fault.WordFault.{WordFault}
 use Rattle.stock_report.specs.Lines.{lines_of}
 use Rattle.command_words.specs.declared.command.Command.TheVariants as command
@@ -18,17 +20,26 @@ use Rattle.planner_top.specs.Stops.{stop_row}
 use Rattle.planner_top.specs.Tasks.{IsTask, IsTrialTask}
 use Rattle.planner_top.specs.Done.{IsDone}
 
--- what a request asks to be done with its files, or why it is refused: by the length of a file, or by a rule on files
-abbrev pub IsFilesProblem : Asked → Held → Result Task Stop → Type 0
+-- the files of a request may have these contents: none is too long, and on a shelf that tells what it holds they are those that it holds
+abbrev pub MayHave : Asked → Option Held → Contents → Type 0
+MayHave q held c = AreShort q.command c × IfSome held (λ m. (too_long_of q m ≡ None) × (c ≡ contents_of q m))
+
+-- a file of a request may be the first that is too long: on a shelf that tells, it is
+abbrev pub MayBeLong : Asked → Option Held → FileWord → Type 0
+MayBeLong q held word = IfSome held (λ m. too_long_of q m ≡ Some word)
+
+-- what a request asks to be done with its files, or why it is refused: by a rule on files, or by the length of one
+abbrev pub IsFilesProblem : Asked → Option Held → Result Task Stop → Type 0
 IsFilesProblem q held problem =
-    MatchOption (too_long_of q held) (IsTask q.command q.ranges q.horizon (contents_of q held) problem) (λ word. problem ≡ Err (stop.TooLong word))
+    ((c : Contents) × MayHave q held c × IsTask q.command q.ranges q.horizon c problem)
+    ⊎ ((word : FileWord) × MayBeLong q held word × (problem ≡ Err (stop.TooLong word)))
 
 -- what a request asks to be done, or why it is refused; a trial reads no file
-abbrev pub IsAskedProblem : Asked → Held → Result Task Stop → Type 0
+abbrev pub IsAskedProblem : Asked → Option Held → Result Task Stop → Type 0
 IsAskedProblem q held problem = MatchOption q.trial (IsFilesProblem q held problem) (λ t. IsTrialTask t q.ranges q.horizon problem)
 
--- what words ask to be done, or why they are refused
-abbrev pub IsProblem : List (List ℕ) → Held → Result Task Stop → Type 0
+-- what words ask to be done on a shelf, or why they are refused
+abbrev pub IsProblem : List (List ℕ) → Option Held → Result Task Stop → Type 0
 IsProblem words held problem =
     MatchResult (asked_of words) (λ q. IsAskedProblem q held problem) (λ fault. problem ≡ Err (stop.Words fault))
 
@@ -53,8 +64,8 @@ MayEnd c ending.Words = ⊤
 MayEnd c ending.Refused = ⊤
 MayEnd c ending.TooLong = ⊤
 
--- an ending with its rows, the number of tables that were filled and the certificate that was made is the answer to words and to what
--- a shelf holds, where the shelf tells
+-- an ending with its rows, the number of tables that were filled and the certificate that was made is the answer to words on a shelf: to
+-- what the shelf holds where it tells, and to some files where it does not
 pub record IsAnswer (said : List (List ℕ)) (held : Option Held) (e : Ending) (rows : List (List (List ℕ))) (filled : ℕ) (cert : Option (List ℕ)) : Type 0 where
   -- the words are refused exactly where a rule on them fails, and by the line of the first that does
   pub words : (e ≡ ending.Words) ↔ IsErr (asked_of said)
@@ -62,7 +73,7 @@ pub record IsAnswer (said : List (List ℕ)) (held : Option Held) (e : Ending) (
   pub own : (q : Asked) → asked_of said ≡ Ok q → MayEnd q.command e
   pub few : filled ≤ MOST_FILLED
   -- the refusal that the words and files ask for, or else what they ask to be done
-  pub told : IfSome held (λ m. (problem : Result Task Stop) × IsProblem said m problem × MatchResult problem (IsDone e rows filled cert) (IsRefusal e rows filled cert))
+  pub told : (problem : Result Task Stop) × IsProblem said held problem × MatchResult problem (IsDone e rows filled cert) (IsRefusal e rows filled cert)
 
 -- a text is the lines of rows of which something holds
 abbrev pub IsTextOf : List ℕ → (List (List (List ℕ)) → Type 0) → Type 0

@@ -21,16 +21,16 @@ use Rattle.planner_top.specs.Sessions.{KeepsNames, IsCarried, IsCutByWrite, IsCu
 -- which ending comes exactly where, by what words and files ask to be done, or their refusal; a network whose forest drops an arc may
 -- end spent in the place of done or infeasible
 pub record Exactly (said : List (List ℕ)) (m : Held) (e : Ending) : Type 0 where
-  pub words : (e ≡ ending.Words) ↔ ((fault : WordFault) × IsProblem said m (Err (stop.Words fault)))
-  pub too_long : (e ≡ ending.TooLong) ↔ ((word : FileWord) × IsProblem said m (Err (stop.TooLong word)))
-  pub refused : (e ≡ ending.Refused) ↔ ((fault : FileFault) × IsProblem said m (Err (stop.Refused fault)))
-  pub not_accepted : (e ≡ ending.NotAccepted) ↔ ((t : Task) × IsProblem said m (Ok t) × IsRefusedTask t)
-  pub not_feasible : (e ≡ ending.NotFeasible) ↔ ((t : Task) × IsProblem said m (Ok t) × IsBrokenTask t)
-  pub infeasible : e ≡ ending.Infeasible → (t : Task) × IsProblem said m (Ok t) × IsEmptyTask t
-  pub where_infeasible : (t : Task) → IsProblem said m (Ok t) → IsEmptyTask t → EndsOrSpent e ending.Infeasible t
-  pub done : e ≡ ending.Done → (t : Task) × IsProblem said m (Ok t) × CanBeDone t
-  pub where_done : (t : Task) → IsProblem said m (Ok t) → CanBeDone t → EndsOrSpent e ending.Done t
-  pub spent : e ≡ ending.Spent → (t : Task) × IsProblem said m (Ok t) × IsSpentTask t
+  pub words : (e ≡ ending.Words) ↔ ((fault : WordFault) × IsProblem said (Some m) (Err (stop.Words fault)))
+  pub too_long : (e ≡ ending.TooLong) ↔ ((word : FileWord) × IsProblem said (Some m) (Err (stop.TooLong word)))
+  pub refused : (e ≡ ending.Refused) ↔ ((fault : FileFault) × IsProblem said (Some m) (Err (stop.Refused fault)))
+  pub not_accepted : (e ≡ ending.NotAccepted) ↔ ((t : Task) × IsProblem said (Some m) (Ok t) × IsRefusedTask t)
+  pub not_feasible : (e ≡ ending.NotFeasible) ↔ ((t : Task) × IsProblem said (Some m) (Ok t) × IsBrokenTask t)
+  pub infeasible : e ≡ ending.Infeasible → (t : Task) × IsProblem said (Some m) (Ok t) × IsEmptyTask t
+  pub where_infeasible : (t : Task) → IsProblem said (Some m) (Ok t) → IsEmptyTask t → EndsOrSpent e ending.Infeasible t
+  pub done : e ≡ ending.Done → (t : Task) × IsProblem said (Some m) (Ok t) × CanBeDone t
+  pub where_done : (t : Task) → IsProblem said (Some m) (Ok t) → CanBeDone t → EndsOrSpent e ending.Done t
+  pub spent : e ≡ ending.Spent → (t : Task) × IsProblem said (Some m) (Ok t) × IsSpentTask t
 
 -- no call on the outside failed, and memory sufficed
 pub record IsSure (r : Run) : Type 0 where
@@ -49,8 +49,9 @@ pub record Headline (r : Run) : Type 0 where
   pub later : IsLater r
   -- where no call failed and memory sufficed there is an answer
   pub complete : IsSure r → (e : Ending) × (r.status ≡ status_of e)
-  -- an answer is true of the words and files where the shelf tells, its lines follow what was written, its certificate is on the shelf
-  -- where the words ask for it, and no call failed; the same holds of each answer of a session that was carried out
+  -- an answer is true of the words and of files, those that the shelf holds where it tells; its lines follow what was written, its
+  -- certificate is on the shelf where the words ask for it, and no call failed; the same holds of each answer of a session that was
+  -- carried out
   pub answer : (e : Ending) → r.status ≡ status_of e → Answered r e ⊎ ((e ≡ ending.Done) × IsCarried r)
   -- and it comes exactly where its cause is, on a shelf that tells what it holds
   pub exact : (e : Ending) (m : Held) → r.status ≡ status_of e → r.held ≡ Some m → Exactly r.words m e

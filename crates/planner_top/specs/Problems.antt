@@ -1,5 +1,5 @@
 -- What the calls give that a run is made of, with the count of failed reads before and after them.
-use Rattle.std.specs.Prelude.{◌≡◌, ◌≤◌, ◌+◌, ◌-◌, ℕ, List, Option, Result, Ok, Err, IfSome, ⊤, IsOk}
+use Rattle.std.specs.Prelude.{◌≡◌, ◌≤◌, ◌+◌, ◌-◌, ℕ, List, Option, Result, Ok, Err, ⊤, IsOk}
 use Rattle.gsm_outside.specs.Held.{Held}
 use Rattle.command_words.specs.Asked.{Asked, asked_of}
 use Rattle.gsm_outside.specs.Causes.{Rose}
@@ -35,18 +35,18 @@ IsUnreadOf words held word = (q : Asked) × (asked_of words ≡ Ok q) × IsUnrea
 
 -- what a request asks to be done, or why there is nothing to do
 abbrev pub AskedCase : Asked → Option Held → ℕ → ℕ → Result Task Unsolved → Type 0
-AskedCase q held before now (Ok t) = (now ≡ before) × IsReady t × (command_of t ≡ q.command) × IfSome held (λ m. IsAskedProblem q m (Ok t))
+AskedCase q held before now (Ok t) = (now ≡ before) × IsReady t × (command_of t ≡ q.command) × IsAskedProblem q held (Ok t)
 AskedCase q held before now (Err (unsolved.Stop (stop.Words fault))) = ⊥
-AskedCase q held before now (Err (unsolved.Stop s)) = (now ≡ before) × IfSome held (λ m. IsAskedProblem q m (Err s))
+AskedCase q held before now (Err (unsolved.Stop s)) = (now ≡ before) × IsAskedProblem q held (Err s)
 AskedCase q held before now (Err (unsolved.Fault word)) = (before ≤ now) × Rose before now × IsUnread q held word
 AskedCase q held before now (Err unsolved.NoMemory) = before ≤ now
 
 -- what the words ask to be done, or why there is nothing to do
 abbrev pub ProblemCase : List (List ℕ) → Option Held → ℕ → ℕ → Result Task Unsolved → Type 0
 ProblemCase words held before now (Ok t) =
-    (now ≡ before) × IsReady t × ((q : Asked) × (asked_of words ≡ Ok q) × (command_of t ≡ q.command)) × IfSome held (λ m. IsProblem words m (Ok t))
+    (now ≡ before) × IsReady t × ((q : Asked) × (asked_of words ≡ Ok q) × (command_of t ≡ q.command)) × IsProblem words held (Ok t)
 ProblemCase words held before now (Err (unsolved.Stop s)) =
-    (now ≡ before) × TellsWords words s × IfSome held (λ m. IsProblem words m (Err s))
+    (now ≡ before) × TellsWords words s × IsProblem words held (Err s)
 ProblemCase words held before now (Err (unsolved.Fault word)) = (before ≤ now) × Rose before now × IsUnreadOf words held word
 ProblemCase words held before now (Err unsolved.NoMemory) = before ≤ now
 

@@ -1,5 +1,5 @@
 -- What is known of a task when it is done.
-use Rattle.std.specs.Prelude.{◌≡◌, ◌≤◌, ◌+◌, ℕ, List, length, IsTrue, ⊤}
+use Rattle.std.specs.Prelude.{◌≤◌, ◌+◌, ℕ, List, length, IsTrue, ⊤}
 use Rattle.service_model.specs.declared.cert_rules.TheConstants.{MAX_BUDGET}
 use Rattle.service_model.specs.declared.plan.Plan.{Plan}
 use Rattle.service_model.specs.Net.{Net}

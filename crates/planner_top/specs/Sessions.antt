@@ -1,5 +1,5 @@
 -- What is seen of a run whose words ask for a session.
-use Rattle.std.specs.Prelude.{◌≡◌, ◌+◌, ℕ, List, [], ◌∷◌, Option, Ok, IfSome, ◌⊎◌}
+use Rattle.std.specs.Prelude.{◌≡◌, ◌+◌, ℕ, List, [], ◌∷◌, Option, Ok, ◌⊎◌}
 use Rattle.gsm_outside.specs.Held.{Held}
 use Rattle.gsm_outside.specs.Causes.{Rose}
 use Rattle.command_words.specs.Asked.{Asked, asked_of, cert_name}
@@ -20,9 +20,9 @@ use Rattle.planner_top.specs.Runs.{Run, PartFollows, IsTold}
 abbrev pub AsksSession : List (List ℕ) → Type 0
 AsksSession words = (q : Asked) × (asked_of words ≡ Ok q) × (q.command ≡ Session)
 
--- the words ask for a session, with this script; where the shelf tells, it is the one that its files ask for
+-- the words and files ask for a session, with this script
 abbrev pub IsSessionOf : List (List ℕ) → Option Held → State → List (List (List ℕ)) → Type 0
-IsSessionOf words held s script = AsksSession words × IfSome held (λ m. IsProblem words m (Ok (task.Session s script)))
+IsSessionOf words held s script = AsksSession words × IsProblem words held (Ok (task.Session s script))
 
 -- what is held stays, but perhaps for the certificate that the words ask for, or for those of a session's answers
 abbrev pub KeepsNames : List (List ℕ) → Option Held → Option Held → Type 0
