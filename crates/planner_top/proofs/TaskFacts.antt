@@ -157,9 +157,9 @@ one_by_files : (q : Asked) (m : Held) (a b : Result Task Stop) → IsFilesProble
 one_by_files q m a b (inl (c, have, is)) (inl (d, having, also)) =
     let same : d ≡ c = having.1.1 ∙ sym have.1.1 in
     one_task q.command q.ranges q.horizon c a b is (subst (λ (x : Contents). IsTask q.command q.ranges q.horizon x b) same also)
-one_by_files q m a b (inl (c, have, is)) (inr (word, long, also)) = (let none = have.1.0 in cc)
-one_by_files q m a b (inr (word, long, is)) (inl (d, having, also)) = (let none = having.1.0 in cc)
-one_by_files q m a b (inr (word, long, is)) (inr (other, longer, also)) = (let same : word ≡ other = cc in is ∙ ap (λ (x : FileWord). Err (stop.TooLong x)) same ∙ sym also)
+one_by_files q m a b (inl (c, have, is)) (inr (word, long, also)) = (let none = have.1.0 in let some = long.1 in cc)
+one_by_files q m a b (inr (word, long, is)) (inl (d, having, also)) = (let none = having.1.0 in let some = long.1 in cc)
+one_by_files q m a b (inr (word, long, is)) (inr (other, longer, also)) = (let first = long.1 in let second = longer.1 in let same : word ≡ other = cc in is ∙ ap (λ (x : FileWord). Err (stop.TooLong x)) same ∙ sym also)
 
 -- the rule on the budget, by the files of a trial
 abbrev trial_last : TrialNumbers → Option ℕ → ℕ → Option FileFault → Type 0

@@ -4,7 +4,7 @@ use Rattle.gsm_outside.specs.Held.{Held}
 use Rattle.command_words.specs.Asked.{Asked, asked_of}
 use Rattle.request_files.specs.Lengths.{too_long_of, AreShort}
 use Rattle.request_files.specs.declared.contents.Contents.{Contents}
-use Rattle.request_files.specs.Contents.{contents_of}
+use Rattle.request_files.specs.Contents.{contents_of, IsFileOf}
 use Rattle.command_words.specs.declared.command.Command.{Command}
 use Rattle.command_words.specs.declared.file_word.FileWord.{FileWord}
 use Rattle.command_words.specs.declared.word_fault.WordFault.{WordFault}
@@ -24,9 +24,9 @@ use Rattle.planner_top.specs.Done.{IsDone}
 abbrev pub MayHave : Asked → Option Held → Contents → Type 0
 MayHave q held c = AreShort q.command c × IfSome held (λ m. (too_long_of q m ≡ None) × (c ≡ contents_of q m))
 
--- a file of a request may be the first that is too long: on a shelf that tells, it is
+-- a file of a request may be the first that is too long: the command reads it, and on a shelf that tells it is the first
 abbrev pub MayBeLong : Asked → Option Held → FileWord → Type 0
-MayBeLong q held word = IfSome held (λ m. too_long_of q m ≡ Some word)
+MayBeLong q held word = IsFileOf q.command word × IfSome held (λ m. too_long_of q m ≡ Some word)
 
 -- what a request asks to be done with its files, or why it is refused: by a rule on files, or by the length of one
 abbrev pub IsFilesProblem : Asked → Option Held → Result Task Stop → Type 0

@@ -56,7 +56,7 @@ too_long q None word short long = tt
 too_long q (Some m) word short long = rw (short.0, short.1, short.2, long) refl
 
 stops : (q : Asked) (held : Option Held) (before now : ℕ) (u : Unread) → IfSome held (λ m. AreShortIn q m) → FurtherCase (further_file q.command) held q.further before now (Err u) → FilesCase q held before now (Err u)
-stops q held before now (unread.TooLong word) short case = (case.0, too_long q held word short case.1)
+stops q held before now (unread.TooLong word) short case = (case.0, file_of q word case.1, too_long q held word short case.2)
 stops q held before now (unread.Fault word) short case = (case.0, case.1, (file_of q word case.2, none_before q held word short))
 stops q held before now unread.NoMemory short case = case
 

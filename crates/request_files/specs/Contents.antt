@@ -51,13 +51,13 @@ FurtherCase word held name before now (Ok bytes) =
     (now ≡ before) × IsWithin word bytes
     × IfSome held (λ m. (further_long word (file_bytes m name) ≡ None) × (bytes ≡ further_bytes word (file_bytes m name)))
 FurtherCase word held name before now (Err (unread.TooLong long)) =
-    (now ≡ before) × IfSome held (λ m. further_long word (file_bytes m name) ≡ Some long)
+    (now ≡ before) × (word ≡ Some long) × IfSome held (λ m. further_long word (file_bytes m name) ≡ Some long)
 FurtherCase word held name before now (Err (unread.Fault failed)) = (before ≤ now) × Rose before now × (word ≡ Some failed)
 FurtherCase word held name before now (Err unread.NoMemory) = before ≤ now
 
 -- what reading the files of a request gives, with the count of failed reads before and after it
 abbrev pub FilesCase : Asked → Option Held → ℕ → ℕ → Result Contents Unread → Type 0
 FilesCase q held before now (Ok c) = (now ≡ before) × AreShort q.command c × IfSome held (λ m. (too_long_of q m ≡ None) × (c ≡ contents_of q m))
-FilesCase q held before now (Err (unread.TooLong word)) = (now ≡ before) × IfSome held (λ m. too_long_of q m ≡ Some word)
+FilesCase q held before now (Err (unread.TooLong word)) = (now ≡ before) × IsFileOf q.command word × IfSome held (λ m. too_long_of q m ≡ Some word)
 FilesCase q held before now (Err (unread.Fault word)) = (before ≤ now) × Rose before now × IsUnread q held word
 FilesCase q held before now (Err unread.NoMemory) = before ≤ now
