@@ -41,7 +41,7 @@ asked_case q held before now contents (Err unsolved.NoMemory) same read files ca
 -- the files of a request were not read
 pub asked_unread : (q : Asked) (held : Option Held) (before now : ℕ) (u : Unread) → q.trial ≡ None → FilesCase q held before now (Err u) → AskedCase q held before now (Err (unsolved_as u))
 asked_unread q held before now (unread.TooLong word) files case = (case.0, of_files q held (Err (stop.TooLong word)) files (inr (word, (case.1, case.2), refl)))
-asked_unread q held before now (unread.Fault word) files case = case
+asked_unread q held before now (unread.Fault word) files case = (case.0, case.1, files, case.2)
 asked_unread q held before now unread.NoMemory files case = case
 
 of_trial : (q : Asked) (held : Option Held) (t : TrialNumbers) (problem : Result Task Stop) → q.trial ≡ Some t → IsTrialTask t q.ranges q.horizon problem → IsAskedProblem q held problem

@@ -28,7 +28,8 @@ MayHave q held c = AreShort q.command c × IfSome held (λ m. (too_long_of q m �
 abbrev pub MayBeLong : Asked → Option Held → FileWord → Type 0
 MayBeLong q held word = IsFileOf q.command word × IfSome held (λ m. too_long_of q m ≡ Some word)
 
--- what a request asks to be done with its files, or why it is refused: by a rule on files, or by the length of one
+-- what a request asks to be done with its files, or why it is refused: by a rule on files, or by the length of one; on a shelf that does
+-- not tell, what it asks with some files
 abbrev pub IsFilesProblem : Asked → Option Held → Result Task Stop → Type 0
 IsFilesProblem q held problem =
     ((c : Contents) × MayHave q held c × IsTask q.command q.ranges q.horizon c problem)
@@ -38,7 +39,7 @@ IsFilesProblem q held problem =
 abbrev pub IsAskedProblem : Asked → Option Held → Result Task Stop → Type 0
 IsAskedProblem q held problem = MatchOption q.trial (IsFilesProblem q held problem) (λ t. IsTrialTask t q.ranges q.horizon problem)
 
--- what words ask to be done on a shelf, or why they are refused
+-- what words ask to be done on a shelf, or why they are refused; on one that tells, it is one thing
 abbrev pub IsProblem : List (List ℕ) → Option Held → Result Task Stop → Type 0
 IsProblem words held problem =
     MatchResult (asked_of words) (λ q. IsAskedProblem q held problem) (λ fault. problem ≡ Err (stop.Words fault))

@@ -10,7 +10,7 @@ use Rattle.planner_top.specs.Problems.{IsUnreadOf}
 use Rattle.planner_top.specs.Runs.{Run, Follows, PartFollows, IsTold}
 use Rattle.planner_top.specs.Endings.{IsFound, IsGiven}
 
--- a read failed, no rule on words did, and nothing was done to the shelf
+-- the count of failed reads rose, the words ask for files, and what the shelf holds stays
 pub record IsUnsolved (r : Run) (word : FileWord) : Type 0 where
   pub rose : Rose r.reads r.reads_after
   pub ticks : r.ticks_after ≡ r.ticks
@@ -18,7 +18,7 @@ pub record IsUnsolved (r : Run) (word : FileWord) : Type 0 where
   pub held : r.held_after ≡ r.held
   pub writes : r.writes_after ≡ r.writes
 
--- a read failed, and the line that says so follows what was written; the file that it names may be the one
+-- the count of failed reads rose, and the line that says so follows what was written; the file that it names may be the one
 abbrev pub FailedRead : Run → Type 0
 FailedRead r =
     (r.faults_after ≡ r.faults) × ((word : FileWord) × IsUnsolved r word × Follows r.written (lines_of (fault_row word ∷ [])) r.written_after)
@@ -60,7 +60,7 @@ pub record IsSilent (r : Run) : Type 0 where
   pub written : r.written_after ≡ r.written
   pub begun : IsBegun r
 
--- what is left where memory did not suffice: nothing was done, a certificate was perhaps begun, or the front of what a run prints was
+-- what is left where memory did not suffice: nothing was written, a certificate was perhaps begun, or the front of what a run prints was
 -- written
 abbrev pub IsLeft : Run → Type 0
 IsLeft r = IsStill r ⊎ IsSilent r ⊎ PrintsFront r

@@ -55,8 +55,8 @@ pub record Headline (r : Run) : Type 0 where
   pub answer : (e : Ending) → r.status ≡ status_of e → Answered r e ⊎ ((e ≡ ending.Done) × IsCarried r)
   -- and it comes exactly where its cause is, on a shelf that tells what it holds
   pub exact : (e : Ending) (m : Held) → r.status ≡ status_of e → r.held ≡ Some m → Exactly r.words m e
-  -- a read fault comes only where a read failed, a write fault only where a write of the certificate, which the line says, or of the
-  -- output failed; what each leaves
+  -- a read fault comes only where the count of failed reads rose, a write fault only where that of failed writes, which the line says, or
+  -- that of the output's faults did; what each leaves
   pub read_fault : r.status ≡ status.ReadFault → FailedRead r
   pub write_fault : r.status ≡ status.WriteFault → (FailedWrite r × PrintsFront r) ⊎ IsCutByWrite r
   pub no_memory : r.status ≡ status.NoMemory → IsLeft r ⊎ IsCutByMemory r

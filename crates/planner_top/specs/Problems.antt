@@ -1,5 +1,5 @@
 -- What the calls give that a run is made of, with the count of failed reads before and after them.
-use Rattle.std.specs.Prelude.{◌≡◌, ◌≤◌, ◌+◌, ◌-◌, ℕ, List, Option, Result, Ok, Err, ⊤, IsOk}
+use Rattle.std.specs.Prelude.{◌≡◌, ◌≤◌, ◌+◌, ◌-◌, ℕ, List, Option, None, Result, Ok, Err, ⊤, IsOk}
 use Rattle.gsm_outside.specs.Held.{Held}
 use Rattle.command_words.specs.Asked.{Asked, asked_of}
 use Rattle.gsm_outside.specs.Causes.{Rose}
@@ -29,16 +29,16 @@ TellsWords words (stop.Words fault) = asked_of words ≡ Err fault
 TellsWords words (stop.TooLong word) = IsOk (asked_of words)
 TellsWords words (stop.Refused fault) = IsOk (asked_of words)
 
--- the file that was not read is one that the words ask for
+-- the words ask for files, and the file that was not read is one of them
 abbrev pub IsUnreadOf : List (List ℕ) → Option Held → FileWord → Type 0
-IsUnreadOf words held word = (q : Asked) × (asked_of words ≡ Ok q) × IsUnread q held word
+IsUnreadOf words held word = (q : Asked) × (asked_of words ≡ Ok q) × (q.trial ≡ None) × IsUnread q held word
 
 -- what a request asks to be done, or why there is nothing to do
 abbrev pub AskedCase : Asked → Option Held → ℕ → ℕ → Result Task Unsolved → Type 0
 AskedCase q held before now (Ok t) = (now ≡ before) × IsReady t × (command_of t ≡ q.command) × IsAskedProblem q held (Ok t)
 AskedCase q held before now (Err (unsolved.Stop (stop.Words fault))) = ⊥
 AskedCase q held before now (Err (unsolved.Stop s)) = (now ≡ before) × IsAskedProblem q held (Err s)
-AskedCase q held before now (Err (unsolved.Fault word)) = (before ≤ now) × Rose before now × IsUnread q held word
+AskedCase q held before now (Err (unsolved.Fault word)) = (before ≤ now) × Rose before now × (q.trial ≡ None) × IsUnread q held word
 AskedCase q held before now (Err unsolved.NoMemory) = before ≤ now
 
 -- what the words ask to be done, or why there is nothing to do

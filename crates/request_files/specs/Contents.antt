@@ -28,14 +28,15 @@ contents_of q held = record {
   further = further_bytes (further_file q.command) (file_bytes held q.further);
 }
 
--- a command reads the file
+-- the file is one of a network, or the command's further file
 abbrev pub IsFileOf : Command → FileWord → Type 0
 IsFileOf command file.Script = further_file command ≡ Some file.Script
 IsFileOf command file.Plan = further_file command ≡ Some file.Plan
 IsFileOf command file.Cert = further_file command ≡ Some file.Cert
 IsFileOf command _ = ⊤
 
--- a file of the request that could be the one that was not read: none that is read before it is longer than its limit
+-- a file of the request that could be the one that was not read: where the shelf tells, none that is read before it is longer than its
+-- limit
 abbrev pub IsUnread : Asked → Option Held → FileWord → Type 0
 IsUnread q held word = IsFileOf q.command word × IfSome held (λ m. longer_before q m word ≡ None)
 
