@@ -6,7 +6,7 @@
 #include <string.h>
 
 enum { MOST = 2000, TIMES = 1001, LINE = 1 << 16 };
-static const long long INF = 1LL << 62;
+static const long long INF = 1LL << 61; /* a cost and two of them are added */
 
 struct stage { char name[80]; int lead, supply, least, most, cost_len; long long cost[TIMES]; };
 static struct stage stages[MOST];
