@@ -78,57 +78,49 @@ fn customers_are_summed_by_their_quantities_over_the_shortest(rt: HostRuntime) -
     Ok(())
 }
 
+// Whether the bounds are refused by the rule, at the record of the stage file.
+fn is_refused(alloc: Global, stages: &[u8], arcs: &[u8], rule: u8, row: u32) -> bool {
+    let fault = ReadFault::Fault(FileFault {
+        file: FileKind::Stages,
+        row,
+        rule,
+        column: 6,
+    });
+    demand_of(alloc, 2, stages, b"", arcs).err() == Some(fault)
+}
+
 #[test]
 fn each_rule_is_refused_at_its_first_stage(rt: HostRuntime) {
+    let alloc = rt.alloc();
+    let (unknown, sum, pool) = (
+        b"stage\nA,0,,,,u,1\n",
+        b"stage\nA,0,,,,sum,1\n",
+        b"stage\nA,0,,,,pool,1\n",
+    );
+    assert!(rt; is_refused(alloc, unknown, b"", NO_TABLE, 2), "no table");
+    assert!(rt;
+        is_refused(alloc, sum, b"", NO_CUSTOMERS, 2),
+        "no customers"
+    );
+    assert!(rt;
+        is_refused(alloc, pool, b"", NO_CUSTOMERS, 2),
+        "nor for a pool"
+    );
+    let both = b"stage\nA,0,,,,sum,1\nB,0,,,,u,1\n";
+    assert!(rt;
+        is_refused(alloc, both, b"", NO_TABLE, 3),
+        "a table comes before customers"
+    );
     let large = b"stage\nA,0,,,,normal:1000000000,1\nB,0,,,,sum,1\nC,0,,,,normal:1000000000,1\n";
-    let cases: [(&[u8], &[u8], u8, u32, &str); 6] = [
-        (b"stage\nA,0,,,,u,1\n", b"", NO_TABLE, 2, "no table"),
-        (
-            b"stage\nA,0,,,,sum,1\n",
-            b"",
-            NO_CUSTOMERS,
-            2,
-            "no customers",
-        ),
-        (
-            b"stage\nA,0,,,,pool,1\n",
-            b"",
-            NO_CUSTOMERS,
-            2,
-            "nor for a pool",
-        ),
-        (
-            b"stage\nA,0,,,,sum,1\nB,0,,,,u,1\n",
-            b"",
-            NO_TABLE,
-            3,
-            "a table comes before customers",
-        ),
-        (
-            large,
-            b"supplier\nB,C\n",
-            TOO_LARGE,
-            2,
-            "the lowest stage without customers",
-        ),
-        (
-            large,
-            b"supplier\nA,B\nB,C\n",
-            TOO_LARGE,
-            4,
-            "customers before their suppliers",
-        ),
-    ];
-    for (stages, arcs, rule, row, note) in cases {
-        let fault = ReadFault::Fault(FileFault {
-            file: FileKind::Stages,
-            row,
-            rule,
-            column: 6,
-        });
-        let given = demand_of(rt.alloc(), 2, stages, b"", arcs).err();
-        assert_eq!(rt; given, Some(fault), "{note}");
-    }
+    let behind = b"supplier\nA,B\nB,C\n";
+    assert!(rt;
+        is_refused(alloc, large, b"supplier\nB,C\n", TOO_LARGE, 2),
+        "the lowest stage without customers"
+    );
+    assert!(rt;
+        is_refused(alloc, large, behind, TOO_LARGE, 4),
+        "customers before their suppliers"
+    );
 }
 
 #[test]
